@@ -1,0 +1,8 @@
+use mathlib.Core.Path.{refl}
+use native.Mathlib.Omega.{arith}
+use Rattle.bytes.specs.Classes.{classBits}
+use Rattle.bytes.proofs.Tabled.{table-at}
+use Rattle.bytes.proofs.tables.class_bits.Needs as need
+
+pub returns : need.returns
+returns c = table-at classBits 0 _ 256 refl (c .args .b) (omega arith)

@@ -1,0 +1,37 @@
+-- Well-formed UTF-8, and where bytes cease to be it. `Utf8 bs` is the library's: bs encodes a list of scalar values.
+-- Assumes nothing.
+use Prim.Native.Nat.{ℕ, _+_, _<_}
+use mathlib.Core.Path.{_≡_}
+use mathlib.Core.Bool.{Bool}
+use mathlib.Core.List.{List, _++_}
+use lib.ListN.{length, take}
+use Rattle.std.specs.Text.{Utf8}
+use Rattle.std.specs.declared.result.Result.{Result}
+use Rattle.std.specs.declared.result.Result.the-variants.{Ok, Err}
+use Rattle.bytes.specs.declared.utf8_state.Utf8State.the-variants.{Start}
+use Rattle.bytes.specs.declared.utf8_fault.Utf8Fault.{Utf8Fault}
+use Rattle.bytes.specs.declared.utf8_fault.Utf8Fault.the-variants.{Byte, End}
+use Rattle.bytes.specs.Machine.{accepts}
+
+-- the test that decides `Utf8`
+unfoldable pub wellFormed : List ℕ → Bool
+wellFormed bs = accepts Start bs
+
+-- some well-formed text begins with these bytes
+abbrev pub Completable : List ℕ → Type 0
+Completable bs = (rest : List ℕ) × Utf8 (bs ++ rest)
+
+-- what a fault says: what stands before the byte can still be completed, and with the byte it cannot; or all of the text can, but is none
+abbrev pub FaultIn : List ℕ → Utf8Fault → Type 0
+FaultIn bs (Byte place) = (place < length bs) × Completable (take place bs) × (Completable (take (place + 1) bs) → ⊥)
+FaultIn bs (End len) = (len ≡ length bs) × Completable bs × (Utf8 bs → ⊥)
+
+-- a check's answer: the text is well-formed, or has this fault
+abbrev pub Checked : List ℕ → Result (Unit {0}) Utf8Fault → Type 0
+Checked bs (Ok u) = Utf8 bs
+Checked bs (Err fault) = FaultIn bs fault
+
+-- where a fault stands
+abbrev pub placeOf : Utf8Fault → ℕ
+placeOf (Byte place) = place
+placeOf (End len) = len

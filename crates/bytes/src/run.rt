@@ -1,0 +1,28 @@
+// The longest run of a class, by one text for every class.
+ghost use mathlib.Core.Path.{_≡_};
+ghost use Rattle.bytes.specs.Runs.{runEnd, LongestRun};
+use crate::class::ByteClass;
+
+// Where the longest run of the class from a place on ends.
+pub fn run_end<C: ByteClass>(page: &[u8], from: usize, class: &C) -> usize
+    ensures is { λ r. ⌜ r ≡ runEnd (C·ByteClass .holds (now (class .entry))) (now (page .entry)) from ⌝ }
+    ensures longest { λ r. ⌜ LongestRun (C·ByteClass .holds (now (class .entry))) (now (page .entry)) from r ⌝ }
+{
+    if from >= page.len() {
+        return from;
+    }
+    let mut end = from;
+    // four bytes at a time, with one look at the page's end
+    'fours: while page.len() - end >= 4 {
+        for i in end..end + 4 {
+            if !class.contains(page[i]) {
+                return i;
+            }
+        }
+        end += 4;
+    }
+    'ones: while end < page.len() && class.contains(page[end]) {
+        end += 1;
+    }
+    end
+}

@@ -1,0 +1,69 @@
+// Which bytes of an area may be read as a text. The grounds for a refusal are tried in the order of their numbers.
+ghost use mathlib.Core.Path.{_≡_};
+ghost use mathlib.Core.List.{_++_};
+ghost use Rattle.std.specs.Text.{Utf8};
+ghost use Rattle.std.specs.Vec.{made};
+ghost use Rattle.bytes.specs.declared.refusal.Refusal.the-variants.{NotUtf8};
+ghost use Rattle.bytes.specs.Refusals.{refused, firstGround, part, areaGrounds, partGrounds, textGrounds};
+use crate::refusal::Refusal;
+use crate::utf8::check_utf8;
+use crate::utf8_fault::Utf8Fault;
+
+const MAX_AREA: usize = 16_777_216;
+
+const MAX_TEXT: usize = 1_048_576;
+
+pub impl From<Utf8Fault> for Refusal as RefusalFromFault {
+    ghost converts = { λ _ r. r ≡ NotUtf8 };
+
+    fn from(_fault: Utf8Fault) -> Refusal {
+        Refusal::NotUtf8
+    }
+}
+
+// Whether an area is short enough.
+pub fn check_area(area: &[u8]) -> Result<(), Refusal>
+    ensures { λ r. ⌜ refused r ≡ firstGround (areaGrounds (now (area .entry))) ⌝ }
+{
+    if area.len() > MAX_AREA {
+        return Err(Refusal::AreaTooLong);
+    }
+    Ok(())
+}
+
+// The part of the area with that start and length.
+pub fn text_part(area: &[u8], start: u32, len: u32) -> Result<&[u8], Refusal>
+    ensures ground { λ r. ⌜ refused r ≡ firstGround (partGrounds (now (area .entry)) start len) ⌝ }
+    ensures part { λ r. ⌜ made r (λ text. now text ≡ part (now (area .entry)) start len) ⌝ }
+{
+    let first = start as usize;
+    let end = first + len as usize;
+    if end > area.len() {
+        return Err(Refusal::PastArea);
+    }
+    Ok(&area[first..end])
+}
+
+// Whether bytes are a text: not too long, and well-formed UTF-8.
+pub fn check_text(text: &[u8]) -> Result<(), Refusal>
+    ensures ground { λ r. ⌜ refused r ≡ firstGround (textGrounds (now (text .entry))) ⌝ }
+    ensures utf8 { λ r. ⌜ made r (λ _. Utf8 (now (text .entry))) ⌝ }
+{
+    if text.len() > MAX_TEXT {
+        return Err(Refusal::TextTooLong);
+    }
+    check_utf8(text)?;
+    Ok(())
+}
+
+// The text of a page that starts somewhere in an area.
+pub fn checked_page(area: &[u8], start: u32, len: u32) -> Result<&[u8], Refusal>
+    ensures ground { λ r. ⌜ refused r ≡ firstGround (areaGrounds (now (area .entry)) ++ partGrounds (now (area .entry)) start len ++ textGrounds (part (now (area .entry)) start len)) ⌝ }
+    ensures part { λ r. ⌜ made r (λ text. now text ≡ part (now (area .entry)) start len) ⌝ }
+    ensures utf8 { λ r. ⌜ made r (λ text. Utf8 (now text)) ⌝ }
+{
+    check_area(area)?;
+    let text = text_part(area, start, len)?;
+    check_text(text)?;
+    Ok(text)
+}
