@@ -10,6 +10,10 @@ use Rattle.std.specs.Text.{asciiAlnum, within}
 abbrev pub ascii : ℕ → Bool
 ascii b = ltb b 128
 
+-- a byte of a character that is not its first
+abbrev pub continuation : ℕ → Bool
+continuation b = within 128 191 b
+
 -- tab, VT and FF, space
 abbrev pub blank : ℕ → Bool
 blank b = eqb b 9 || (within 11 12 b || eqb b 32)

@@ -1,13 +1,14 @@
 -- Refusals by their numbers, and the grounds on which a text is refused. Assumes nothing.
-use Prim.Native.Nat.{ℕ, _+_}
+use Prim.Native.Nat.{ℕ, _+_, _≤_}
 use mathlib.Core.Bool.{Bool, not, cond}
-use mathlib.Core.List.{List, [], _∷_}
+use mathlib.Core.List.{List, [], _∷_, _++_}
 use lib.Dec.{ltb}
 use lib.ListN.{length, take, drop}
 use Rattle.std.specs.declared.option.Option.{Option}
 use Rattle.std.specs.declared.option.Option.the-variants.{Some, None}
 use Rattle.std.specs.declared.result.Result.{Result}
 use Rattle.std.specs.declared.result.Result.the-variants.{Ok, Err}
+use Rattle.std.specs.Text.{Utf8}
 use Rattle.bytes.specs.declared.refusal.Refusal.{Refusal}
 use Rattle.bytes.specs.declared.refusal.Refusal.the-variants.{AreaTooLong, PastArea, TextTooLong, NotUtf8}
 use Rattle.bytes.specs.Utf8.{wellFormed}
@@ -20,9 +21,9 @@ numberOf TextTooLong = 3
 numberOf NotUtf8 = 4
 
 -- the number that a call was refused with, if it was
-abbrev pub refused : {X : Type 0} → Result X Refusal → Option ℕ
-refused (Ok x) = None
-refused (Err refusal) = Some (numberOf refusal)
+abbrev pub refusalOf : {X : Type 0} → Result X Refusal → Option ℕ
+refusalOf (Ok x) = None
+refusalOf (Err refusal) = Some (numberOf refusal)
 
 -- grounds in the order in which they are tried, each its number and whether it holds: the number of the first that does
 abbrev pub firstGround : List (ℕ × Bool) → Option ℕ
@@ -44,3 +45,14 @@ partGrounds area start len = (2, ltb (length area) (start + len)) ∷ []
 -- the text has more than 1,048,576 bytes, or is not well-formed UTF-8
 abbrev pub textGrounds : List ℕ → List (ℕ × Bool)
 textGrounds text = (3, ltb 1048576 (length text)) ∷ (4, not (wellFormed text)) ∷ []
+
+-- all of these, for a page that is a part of an area
+abbrev pub pageGrounds : List ℕ → ℕ → ℕ → List (ℕ × Bool)
+pageGrounds area start len = areaGrounds area ++ (partGrounds area start len ++ textGrounds (part area start len))
+
+-- what may be read: a text is short enough and well-formed UTF-8, and a page is a text within an area that is short enough
+abbrev pub IsText : List ℕ → Type 0
+IsText text = (length text ≤ 1048576) × Utf8 text
+
+abbrev pub IsPage : List ℕ → ℕ → ℕ → Type 0
+IsPage area start len = (length area ≤ 16777216) × (start + len ≤ length area) × IsText (part area start len)

@@ -26,10 +26,10 @@ abbrev pub FaultIn : List ℕ → Utf8Fault → Type 0
 FaultIn bs (Byte place) = (place < length bs) × Completable (take place bs) × (Completable (take (place + 1) bs) → ⊥)
 FaultIn bs (End len) = (len ≡ length bs) × Completable bs × (Utf8 bs → ⊥)
 
--- a check's answer: the text is well-formed, or has this fault
-abbrev pub Checked : List ℕ → Result (Unit {0}) Utf8Fault → Type 0
-Checked bs (Ok u) = Utf8 bs
-Checked bs (Err fault) = FaultIn bs fault
+-- what a check's answer says: the text is well-formed, or has this fault
+abbrev pub Verdict : List ℕ → Result (Unit {0}) Utf8Fault → Type 0
+Verdict bs (Ok u) = Utf8 bs
+Verdict bs (Err fault) = FaultIn bs fault
 
 -- where a fault stands
 abbrev pub placeOf : Utf8Fault → ℕ

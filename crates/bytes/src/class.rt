@@ -4,7 +4,7 @@ ghost use mathlib.Core.Bool.{Bool, not, _||_};
 ghost use Prim.Native.Nat.{ℕ};
 ghost use lib.Dec.{eqb};
 ghost use Rattle.std.specs.Text.{asciiDigit, asciiHex, asciiAlnum};
-ghost use Rattle.bytes.specs.Classes.{ascii, blank, domainByte, wordByte, stemByte};
+ghost use Rattle.bytes.specs.Classes.{ascii, continuation, blank, domainByte, wordByte, stemByte};
 use crate::tables::BLANK;
 use crate::tables::STEM;
 use crate::tables::WORD;
@@ -41,6 +41,18 @@ pub impl ByteClass for Ascii as AsciiClass {
 
     fn contains(&self, b: u8) -> bool {
         b < 128
+    }
+}
+
+// The bytes of a character that are not its first: 80..=BF.
+#[derive(Clone, Copy)]
+pub struct ContinuationBytes;
+
+pub impl ByteClass for ContinuationBytes as ContinuationBytesClass {
+    ghost holds = { λ _ b. continuation b };
+
+    fn contains(&self, b: u8) -> bool {
+        matches!(b, 0x80..=0xBF)
     }
 }
 

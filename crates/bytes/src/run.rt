@@ -1,5 +1,6 @@
-// The longest run of a class, by one text for every class.
+// The longest run of a class, and how often it comes, each by one text for every class.
 ghost use mathlib.Core.Path.{_≡_};
+ghost use Rattle.std.specs.shelf.Lists.{countBy};
 ghost use Rattle.bytes.specs.Runs.{runEnd, LongestRun};
 use crate::class::ByteClass;
 
@@ -25,4 +26,17 @@ pub fn run_end<C: ByteClass>(page: &[u8], from: usize, class: &C) -> usize
         end += 1;
     }
     end
+}
+
+// How many bytes of the page are members of the class.
+pub fn count_members<C: ByteClass>(page: &[u8], class: &C) -> usize
+    ensures { λ r. ⌜ r ≡ countBy (C·ByteClass .holds (now (class .entry))) (now (page .entry)) ⌝ }
+{
+    let mut count = 0;
+    for b in page {
+        if class.contains(*b) {
+            count += 1;
+        }
+    }
+    count
 }

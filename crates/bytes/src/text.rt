@@ -1,10 +1,10 @@
 // Which bytes of an area may be read as a text. The grounds for a refusal are tried in the order of their numbers.
 ghost use mathlib.Core.Path.{_≡_};
-ghost use mathlib.Core.List.{_++_};
-ghost use Rattle.std.specs.Text.{Utf8};
+ghost use Rattle.std.specs.Orderings.{Decides};
+ghost use Rattle.std.specs.Results.{isOk};
 ghost use Rattle.std.specs.Vec.{made};
 ghost use Rattle.bytes.specs.declared.refusal.Refusal.the-variants.{NotUtf8};
-ghost use Rattle.bytes.specs.Refusals.{refused, firstGround, part, areaGrounds, partGrounds, textGrounds};
+ghost use Rattle.bytes.specs.Refusals.{refusalOf, firstGround, part, areaGrounds, partGrounds, textGrounds, pageGrounds, IsText, IsPage};
 use crate::refusal::Refusal;
 use crate::utf8::check_utf8;
 use crate::utf8_fault::Utf8Fault;
@@ -23,7 +23,7 @@ pub impl From<Utf8Fault> for Refusal as RefusalFromFault {
 
 // Whether an area is short enough.
 pub fn check_area(area: &[u8]) -> Result<(), Refusal>
-    ensures { λ r. ⌜ refused r ≡ firstGround (areaGrounds (now (area .entry))) ⌝ }
+    ensures { λ r. ⌜ refusalOf r ≡ firstGround (areaGrounds (now (area .entry))) ⌝ }
 {
     if area.len() > MAX_AREA {
         return Err(Refusal::AreaTooLong);
@@ -33,7 +33,7 @@ pub fn check_area(area: &[u8]) -> Result<(), Refusal>
 
 // The part of the area with that start and length.
 pub fn text_part(area: &[u8], start: u32, len: u32) -> Result<&[u8], Refusal>
-    ensures ground { λ r. ⌜ refused r ≡ firstGround (partGrounds (now (area .entry)) start len) ⌝ }
+    ensures ground { λ r. ⌜ refusalOf r ≡ firstGround (partGrounds (now (area .entry)) start len) ⌝ }
     ensures part { λ r. ⌜ made r (λ text. now text ≡ part (now (area .entry)) start len) ⌝ }
 {
     let first = start as usize;
@@ -46,8 +46,8 @@ pub fn text_part(area: &[u8], start: u32, len: u32) -> Result<&[u8], Refusal>
 
 // Whether bytes are a text: not too long, and well-formed UTF-8.
 pub fn check_text(text: &[u8]) -> Result<(), Refusal>
-    ensures ground { λ r. ⌜ refused r ≡ firstGround (textGrounds (now (text .entry))) ⌝ }
-    ensures utf8 { λ r. ⌜ made r (λ _. Utf8 (now (text .entry))) ⌝ }
+    ensures ground { λ r. ⌜ refusalOf r ≡ firstGround (textGrounds (now (text .entry))) ⌝ }
+    ensures exactly { λ r. ⌜ Decides (isOk r) (IsText (now (text .entry))) ⌝ }
 {
     if text.len() > MAX_TEXT {
         return Err(Refusal::TextTooLong);
@@ -58,9 +58,9 @@ pub fn check_text(text: &[u8]) -> Result<(), Refusal>
 
 // The text of a page that starts somewhere in an area.
 pub fn checked_page(area: &[u8], start: u32, len: u32) -> Result<&[u8], Refusal>
-    ensures ground { λ r. ⌜ refused r ≡ firstGround (areaGrounds (now (area .entry)) ++ partGrounds (now (area .entry)) start len ++ textGrounds (part (now (area .entry)) start len)) ⌝ }
+    ensures ground { λ r. ⌜ refusalOf r ≡ firstGround (pageGrounds (now (area .entry)) start len) ⌝ }
     ensures part { λ r. ⌜ made r (λ text. now text ≡ part (now (area .entry)) start len) ⌝ }
-    ensures utf8 { λ r. ⌜ made r (λ text. Utf8 (now text)) ⌝ }
+    ensures exactly { λ r. ⌜ Decides (isOk r) (IsPage (now (area .entry)) start len) ⌝ }
 {
     check_area(area)?;
     let text = text_part(area, start, len)?;

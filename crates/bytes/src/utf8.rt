@@ -4,7 +4,7 @@ ghost use Rattle.std.specs.Orderings.{Decides};
 ghost use Rattle.std.specs.Results.{isOk};
 ghost use Rattle.std.specs.Text.{Utf8};
 ghost use Rattle.bytes.specs.Machine.{next};
-ghost use Rattle.bytes.specs.Utf8.{wellFormed, Checked};
+ghost use Rattle.bytes.specs.Utf8.{wellFormed, Verdict};
 use crate::class::Ascii;
 use crate::class::AsciiClass;
 use crate::run::run_end;
@@ -41,7 +41,7 @@ impl Utf8State {
 pub fn check_utf8(bytes: &[u8]) -> Result<(), Utf8Fault>
     ensures is { λ r. ⌜ isOk r ≡ wellFormed (now (bytes .entry)) ⌝ }
     ensures decides { λ r. ⌜ Decides (isOk r) (Utf8 (now (bytes .entry))) ⌝ }
-    ensures fault { λ r. ⌜ Checked (now (bytes .entry)) r ⌝ }
+    ensures fault { λ r. ⌜ Verdict (now (bytes .entry)) r ⌝ }
 {
     let mut state = Utf8State::Start;
     let mut place = run_end(bytes, 0, &Ascii);
