@@ -2,6 +2,7 @@
 use Prim.Native.Nat.{ℕ, _+_, _≤_}
 use mathlib.Core.Bool.{Bool, not, cond}
 use mathlib.Core.List.{List, [], _∷_, _++_}
+use lib.Chars.{codes}
 use lib.Dec.{ltb}
 use lib.ListN.{length, take, drop}
 use Rattle.std.specs.declared.option.Option.{Option}
@@ -19,6 +20,13 @@ numberOf AreaTooLong = 1
 numberOf PastArea = 2
 numberOf TextTooLong = 3
 numberOf NotUtf8 = 4
+
+-- its ground in words
+abbrev pub reasonOf : Refusal → List ℕ
+reasonOf AreaTooLong = codes "the area has more than 16777216 bytes"
+reasonOf PastArea = codes "the text reaches past its area"
+reasonOf TextTooLong = codes "the text has more than 1048576 bytes"
+reasonOf NotUtf8 = codes "the text is not well-formed UTF-8"
 
 -- the number that a call was refused with, if it was
 abbrev pub refusalOf : {X : Type 0} → Result X Refusal → Option ℕ

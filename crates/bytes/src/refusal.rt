@@ -1,5 +1,5 @@
 ghost use mathlib.Core.Path.{_≡_};
-ghost use Rattle.bytes.specs.Refusals.{numberOf};
+ghost use Rattle.bytes.specs.Refusals.{numberOf, reasonOf};
 
 // Why a call is refused: one enum for the whole product.
 #[derive(Clone, Copy, Debug)]
@@ -23,6 +23,18 @@ impl Refusal {
             Refusal::PastArea => 2,
             Refusal::TextTooLong => 3,
             Refusal::NotUtf8 => 4,
+        }
+    }
+
+    // The ground in words.
+    pub fn reason(self) -> &'static str
+        ensures { λ r. ⌜ now r ≡ reasonOf self ⌝ }
+    {
+        match self {
+            Refusal::AreaTooLong => "the area has more than 16777216 bytes",
+            Refusal::PastArea => "the text reaches past its area",
+            Refusal::TextTooLong => "the text has more than 1048576 bytes",
+            Refusal::NotUtf8 => "the text is not well-formed UTF-8",
         }
     }
 }

@@ -23,10 +23,10 @@ pub returns : need.returns
 returns c =
     let front = c .args .front .now in
     let here : columnAfter (take (c .loop-start .start) front) ≡ 0 =
-        elim (c .loop-start-test .came) [
-          | then-loop-start-test·else-front-start-ne10 w ↦ stop front (c .loop-start .start) (w .loop-start-test .taken) (c .loop-start .inv .0) (w .if-front-start-ne10 .left)
-          | else-loop-start-test w ↦ start front (c .loop-start .start) (w .loop-start-test .left)
-        ] in
+    elim (c .loop-start-test .came) [
+      | then-loop-start-test·else-front-start-ne10 w ↦ stop front (c .loop-start .start) (w .loop-start-test .taken) (c .loop-start .inv .0) (w .if-front-start-ne10 .left)
+      | else-loop-start-test w ↦ start front (c .loop-start .start) (w .loop-start-test .left)
+    ] in
     let line = ap (λ n. n + 1) (c .count-members-lf-count .ensures) in
     let column : length front - c .loop-start .start ≡ columnAfter front = omega (arith, here, c .loop-start .inv .1) in
     λ k. (line k, column k)

@@ -1,0 +1,30 @@
+-- The words of a report. Assumes nothing.
+use Prim.Native.Nat.{ℕ}
+use mathlib.Core.List.{List, _++_}
+use lib.Chars.{codes}
+use Rattle.std.specs.declared.option.Option.the-variants.{Some, None}
+use Rattle.std.specs.Written.{decimal}
+use Rattle.bytes.specs.declared.utf8_fault.Utf8Fault.{Utf8Fault}
+use Rattle.bytes.specs.declared.utf8_fault.Utf8Fault.the-variants.{Byte, End}
+use Rattle.bytes.specs.Refusals.{numberOf, reasonOf}
+use Rattle.bytes.specs.Utf8.{placeOf}
+use Rattle.report.specs.declared.page_report.FaultReport.{FaultReport}
+use Rattle.report.specs.declared.page_report.PageReport.{PageReport}
+use Rattle.report.specs.declared.page_report.PageReport.the-variants.{Accepted, Refused}
+
+abbrev pub faultWords : Utf8Fault → List ℕ
+faultWords (Byte place) = codes "no character has this byte here"
+faultWords (End len) = codes "the text ends inside a character"
+
+abbrev pub faultText : FaultReport → List ℕ
+faultText told =
+    codes "place "
+    ++ (decimal (placeOf (told .fault)) ++ (codes ", line " ++ (decimal (told .line) ++ (codes ", column " ++ (decimal (told .column) ++ (codes ": " ++ faultWords (told .fault)))))))
+
+abbrev pub reportText : PageReport → List ℕ
+reportText (Accepted bytes lines characters) =
+    codes "accepted: "
+    ++ (decimal bytes ++ (codes " bytes, " ++ (decimal lines ++ (codes " lines, " ++ (decimal characters ++ codes " characters")))))
+reportText (Refused refusal None) = codes "refused, number " ++ (decimal (numberOf refusal) ++ (codes ": " ++ reasonOf refusal))
+reportText (Refused refusal (Some told)) =
+    codes "refused, number " ++ (decimal (numberOf refusal) ++ (codes ": " ++ (reasonOf refusal ++ (codes "; " ++ faultText told))))

@@ -1,0 +1,66 @@
+ghost use mathlib.Core.Path.{_≡_};
+ghost use Rattle.std.specs.Orderings.{Decides};
+ghost use Rattle.std.specs.Results.{isOk};
+ghost use Rattle.std.specs.Text.{Utf8};
+ghost use Rattle.bytes.specs.declared.refusal.Refusal.the-variants.{NotUtf8};
+ghost use Rattle.bytes.specs.Refusals.{refusalOf, firstGround, IsText};
+ghost use Rattle.report.specs.Report.{wholeGrounds, accepted, Reported, FaultTold};
+use crate::page_report::FaultReport;
+use crate::page_report::PageReport;
+use bytes::ContinuationBytes;
+use bytes::ContinuationBytesClass;
+use bytes::Not;
+use bytes::NotClass;
+use bytes::Refusal;
+use bytes::check_area;
+use bytes::check_text;
+use bytes::check_utf8;
+use bytes::count_members;
+use lines::count_lines;
+use lines::line_and_column;
+
+// Whether the page may be read whole: it is the area and its only text.
+fn check_whole(page: &[u8]) -> Result<(), Refusal>
+    ensures ground { λ r. ⌜ refusalOf r ≡ firstGround (wholeGrounds (now (page .entry))) ⌝ }
+    ensures exactly { λ r. ⌜ Decides (isOk r) (IsText (now (page .entry))) ⌝ }
+{
+    check_area(page)?;
+    check_text(page)
+}
+
+// The fault of a page that was refused, if it was refused for one.
+fn fault_report(page: &[u8], refusal: Refusal) -> Option<FaultReport>
+    requires { ⌜ (refusal ≡ NotUtf8 → Utf8 (now page) → ⊥) ⌝ }
+    ensures { λ r. ⌜ FaultTold (now (page .entry)) refusal r ⌝ }
+{
+    let Refusal::NotUtf8 = refusal else {
+        return None;
+    };
+    let Err(fault) = check_utf8(page) else {
+        return None;
+    };
+    let (line, column) = line_and_column(page, fault.place());
+    Some(FaultReport {
+        fault,
+        line,
+        column,
+    })
+}
+
+// Whether the printer may have the page: how many bytes, lines and characters it has, or why not.
+pub fn report_page(page: &[u8]) -> PageReport
+    ensures says { λ r. ⌜ Reported (now (page .entry)) r ⌝ }
+    ensures exactly { λ r. ⌜ Decides (accepted r) (IsText (now (page .entry))) ⌝ }
+{
+    match check_whole(page) {
+        Ok(()) => PageReport::Accepted {
+            bytes: page.len(),
+            lines: count_lines(page),
+            characters: count_members(page, &Not(ContinuationBytes)),
+        },
+        Err(refusal) => PageReport::Refused {
+            refusal,
+            fault: fault_report(page, refusal),
+        },
+    }
+}
