@@ -5,18 +5,19 @@ use mathlib.Core.Bool.{Bool, true, false}
 use mathlib.Core.List.{List, [], _∷_, _++_}
 use native.Mathlib.Omega.{arith}
 use lib.ListN.{length, getD, take, drop, take-append-drop}
-use Rattle.std.specs.Orderings.{Decides}
+use Rattle.std.specs.declared.result.Result.the-variants.{Ok}
 use Rattle.std.specs.Text.{Utf8}
 use Rattle.std.proofs.shelf.Lists.{take-all}
 use Rattle.std.proofs.shelf.Sums.{folded-more}
 use Rattle.std.proofs.shelf.Tests.{false≢true}
-use Rattle.std.proofs.shelf.Ways.{tells}
+use Rattle.std.proofs.shelf.Ways.{tells, not-from-decides}
 use Rattle.bytes.specs.declared.utf8_state.Utf8State.{Utf8State}
 use Rattle.bytes.specs.declared.utf8_state.Utf8State.the-variants.{Start, Due1, Due2, Due3, AfterE0, AfterEd, AfterF0, AfterF4, Fault}
 use Rattle.bytes.specs.Classes.{ascii}
 use Rattle.bytes.specs.Machine.{next, after, accepts, atStart}
 use Rattle.bytes.specs.Runs.{LongestRun}
-use Rattle.bytes.specs.Utf8.{wellFormed, Completable}
+use Rattle.bytes.specs.declared.utf8_fault.Utf8Fault.the-variants.{Byte, End}
+use Rattle.bytes.specs.Utf8.{wellFormed, Completable, Faulty, Scanned}
 use Rattle.bytes.proofs.Language.{decides, decided}
 
 after-append : (s : Utf8State) (xs ys : List ℕ) → after s (xs ++ ys) ≡ after (after s xs) ys
@@ -75,17 +76,17 @@ completes AfterF4 h = refl
 completes Fault h = absurd (h refl)
 
 -- where there is no fault, the bytes so far can be completed
-pub completable : (s : Utf8State) (bs : List ℕ) → s ≡ after Start bs → (s ≡ Fault → ⊥) → Completable bs
+completable : (s : Utf8State) (bs : List ℕ) → s ≡ after Start bs → (s ≡ Fault → ⊥) → Completable bs
 completable s bs e no-fault =
     (completion s, decides (bs ++ completion s) .0 (ap atStart (after-append Start bs (completion s) ∙ ap (λ t. after t (completion s)) (sym e)) ∙ completes s no-fault))
 
 -- where there is one, they cannot
-pub not-completable : (bs : List ℕ) → Fault ≡ after Start bs → Completable bs → ⊥
+not-completable : (bs : List ℕ) → Fault ≡ after Start bs → Completable bs → ⊥
 not-completable bs e (rest, u) =
     false≢true (sym (ap atStart (after-append Start bs rest ∙ ap (λ t. after t rest) (sym e) ∙ after-fault rest)) ∙ decides (bs ++ rest) .1 u)
 
 -- a fault on the way is a fault of the whole text
-pub rejected : (bs : List ℕ) (i : ℕ) → Fault ≡ after Start (take i bs) → false ≡ accepts Start bs
+rejected : (bs : List ℕ) (i : ℕ) → Fault ≡ after Start (take i bs) → false ≡ accepts Start bs
 rejected bs i e =
     sym (ap (accepts Start) (sym (take-append-drop i bs))
     ∙ ap atStart (after-append Start (take i bs) (drop i bs) ∙ ap (λ t. after t (drop i bs)) (sym e) ∙ after-fault (drop i bs)))
@@ -95,7 +96,7 @@ pub at-end : (bs : List ℕ) (i : ℕ) (s : Utf8State) → length bs ≤ i → s
 at-end bs i s h e = e ∙ ap (after Start) (take-all i bs h)
 
 -- only where nothing is due does a text end
-pub not-start : (s : Utf8State) → (s ≡ Start → ⊥) → false ≡ atStart s
+not-start : (s : Utf8State) → (s ≡ Start → ⊥) → false ≡ atStart s
 not-start Start h = absurd (h refl)
 not-start Due1 h = refl
 not-start Due2 h = refl
@@ -109,7 +110,24 @@ not-start Fault h = refl
 pub start-no-fault : Start ≡ Fault → ⊥
 start-no-fault e = false≢true (sym (ap atStart e))
 
--- the machine's answer, in each of the two ways that the check's contract has it
-pub as-test : (r : Bool) (bs : List ℕ) → r ≡ accepts Start bs → r ≡ wellFormed bs
+-- the machine decides UTF-8, as the shut test
+no : (bs : List ℕ) → false ≡ accepts Start bs → (wellFormed bs ≡ false) × (Utf8 bs → ⊥)
 unfolding wellFormed
-as-test r bs e = e
+no bs e = (sym e, not-from-decides false (decided false bs e) refl)
+
+yes-text : (bs : List ℕ) → true ≡ accepts Start bs → (wellFormed bs ≡ true) × Utf8 bs
+unfolding wellFormed
+yes-text bs e = (sym e, decided true bs e .0 refl)
+
+-- a fault at a byte
+pub fault-on-the-way : (bs : List ℕ) (i : ℕ) (s : Utf8State) → i < length bs → s ≡ after Start (take i bs) → (s ≡ Fault → ⊥) → Fault ≡ after Start (take (i + 1) bs) → Faulty bs (Byte i)
+fault-on-the-way bs i s h e no-fault f =
+    let n = no bs (rejected bs (i + 1) f) in
+    (n .0, n .1, (h, completable s (take i bs) e no-fault, not-completable (take (i + 1) bs) f))
+
+-- the state at the end
+pub stopped : (bs : List ℕ) (s : Utf8State) → s ≡ after Start bs → (s ≡ Fault → ⊥) → Scanned bs (Ok s)
+stopped bs s e no-fault = (
+  λ start. yes-text bs (sym (ap atStart start) ∙ ap atStart e),
+  λ due. let n = no bs (not-start s due ∙ ap atStart e) in (n .0, n .1, (refl, completable s bs e no-fault, n .1)),
+)

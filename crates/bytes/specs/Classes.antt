@@ -3,6 +3,7 @@
 -- Assumes nothing.
 use mathlib.Core.Bool.{Bool, cond, not, _&&_, _||_}
 use Prim.Native.Nat.{ℕ, _+_}
+use lib.Bits.{bitAnd}
 use lib.Dec.{eqb, ltb}
 use Rattle.std.specs.Text.{asciiAlnum, within}
 
@@ -34,6 +35,10 @@ wordByte b = not (wordEnd b)
 abbrev pub stemByte : ℕ → Bool
 stemByte b = wordByte b && not (eqb b 64)
 
--- the sets that a byte of a page is asked for most, as bits of one number: 1 for a blank, 2 for a word byte, 4 for a stem byte
+-- the classes that are asked for at every byte of a page, as bits of one number: 1 for a blank, 2 for a word byte, 4 for a stem byte
 abbrev pub classBits : ℕ → ℕ
 classBits b = cond (blank b) 1 0 + cond (wordByte b) 2 0 + cond (stemByte b) 4 0
+
+-- a bit stands in a number
+abbrev pub hasBit : ℕ → ℕ → Bool
+hasBit bits bit = not (eqb (bitAnd bits bit) 0)

@@ -2,12 +2,13 @@
 -- Assumes nothing.
 use Prim.Native.Nat.{ℕ, _+_, _<_}
 use mathlib.Core.Path.{_≡_}
-use mathlib.Core.Bool.{Bool}
+use mathlib.Core.Bool.{Bool, true, false}
 use mathlib.Core.List.{List, _++_}
 use lib.ListN.{length, take}
 use Rattle.std.specs.Text.{Utf8}
 use Rattle.std.specs.declared.result.Result.{Result}
 use Rattle.std.specs.declared.result.Result.the-variants.{Ok, Err}
+use Rattle.bytes.specs.declared.utf8_state.Utf8State.{Utf8State}
 use Rattle.bytes.specs.declared.utf8_state.Utf8State.the-variants.{Start}
 use Rattle.bytes.specs.declared.utf8_fault.Utf8Fault.{Utf8Fault}
 use Rattle.bytes.specs.declared.utf8_fault.Utf8Fault.the-variants.{Byte, End}
@@ -35,3 +36,12 @@ Verdict bs (Err fault) = FaultIn bs fault
 abbrev pub placeOf : Utf8Fault → ℕ
 placeOf (Byte place) = place
 placeOf (End len) = len
+
+-- a text that is not well-formed, with its fault
+abbrev pub Faulty : List ℕ → Utf8Fault → Type 0
+Faulty bs fault = (wellFormed bs ≡ false) × (Utf8 bs → ⊥) × FaultIn bs fault
+
+-- what the machine says where it stops: the first fault, or by its state at the end whether the text ends between characters
+abbrev pub Scanned : List ℕ → Result Utf8State Utf8Fault → Type 0
+Scanned bs (Ok s) = (s ≡ Start → (wellFormed bs ≡ true) × Utf8 bs) × ((s ≡ Start → ⊥) → Faulty bs (End (length bs)))
+Scanned bs (Err fault) = Faulty bs fault

@@ -139,7 +139,7 @@ pub impl ByteClass for StemBytes as StemBytesClass {
 }
 
 // The opposite of a class.
-#[derive(Clone, Copy)]
+#[derive(Drop)]
 pub struct Not<C>(pub C);
 
 pub impl<C: ByteClass> ByteClass for Not<C> as NotClass {
@@ -151,7 +151,7 @@ pub impl<C: ByteClass> ByteClass for Not<C> as NotClass {
 }
 
 // Either of two classes.
-#[derive(Clone, Copy)]
+#[derive(Drop)]
 pub struct Either<C, D>(pub C, pub D);
 
 pub impl<C: ByteClass, D: ByteClass> ByteClass for Either<C, D> as EitherClass {

@@ -4,6 +4,8 @@ ghost use mathlib.Core.Bool.{Bool, false, _||_};
 ghost use mathlib.Core.List.{List};
 ghost use Prim.Native.Nat.{ℕ};
 ghost use denote.Ref.{now};
+ghost use lib.ListN.{length, take};
+ghost use Rattle.std.specs.shelf.Text.{sameBytes};
 ghost use Rattle.bytes.specs.Names.{listed, inFamily};
 use crate::class::Not;
 use crate::class::NotClass;
@@ -75,16 +77,22 @@ pub impl NameSet for Listed<'_> as ListedNames {
 #[derive(Clone, Copy)]
 pub struct Family<'a>(pub &'a [u8]);
 
+fn begins_with(name: &[u8], beginning: &[u8]) -> bool
+    ensures { λ r. ⌜ r ≡ sameBytes (take (length (now (beginning .entry))) (now (name .entry))) (now (beginning .entry)) ⌝ }
+{
+    name.starts_with(beginning)
+}
+
 pub impl NameSet for Family<'_> as FamilyNames {
     ghost knows = { λ set name. inFamily (now (set .0)) name };
 
     fn contains_name(&self, name: &[u8]) -> bool {
-        name.len() > self.0.len() && name.starts_with(self.0)
+        name.len() > self.0.len() && begins_with(name, self.0)
     }
 }
 
 // The names of either of two sets.
-#[derive(Clone, Copy)]
+#[derive(Drop)]
 pub struct Joined<M, N>(pub M, pub N);
 
 pub impl<M: NameSet, N: NameSet> NameSet for Joined<M, N> as JoinedNames {

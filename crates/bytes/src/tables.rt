@@ -1,6 +1,6 @@
 // Classes as bits of a number, by a table. The table is held to its rule at all 256 bytes at once.
 ghost use mathlib.Core.Path.{_≡_};
-ghost use Rattle.bytes.specs.Classes.{classBits};
+ghost use Rattle.bytes.specs.Classes.{blank, wordByte, stemByte, classBits, hasBit};
 
 pub const BLANK: u8 = 1;
 
@@ -8,11 +8,19 @@ pub const WORD: u8 = 2;
 
 pub const STEM: u8 = 4;
 
-// The classes of a byte among those three, as a sum.
-pub fn class_bits(b: u8) -> u8
+fn table_entry(b: u8) -> u8
     ensures { λ r. ⌜ r ≡ classBits b ⌝ }
 {
     CLASS_BITS[b as usize]
+}
+
+// The classes of a byte among those three, as a sum.
+pub fn class_bits(b: u8) -> u8
+    ensures blank { λ r. ⌜ hasBit r 1 ≡ blank b ⌝ }
+    ensures word { λ r. ⌜ hasBit r 2 ≡ wordByte b ⌝ }
+    ensures stem { λ r. ⌜ hasBit r 4 ≡ stemByte b ⌝ }
+{
+    table_entry(b)
 }
 
 static CLASS_BITS: [u8; 256] = [

@@ -4,7 +4,7 @@ ghost use Rattle.std.specs.Orderings.{Decides};
 ghost use Rattle.std.specs.Results.{isOk};
 ghost use Rattle.std.specs.Text.{Utf8};
 ghost use Rattle.bytes.specs.Machine.{next};
-ghost use Rattle.bytes.specs.Utf8.{wellFormed, Verdict};
+ghost use Rattle.bytes.specs.Utf8.{wellFormed, Verdict, Scanned};
 use crate::class::Ascii;
 use crate::class::AsciiClass;
 use crate::run::run_end;
@@ -37,11 +37,9 @@ impl Utf8State {
     }
 }
 
-// Whether the bytes are well-formed UTF-8, and if not, where the first fault stands.
-pub fn check_utf8(bytes: &[u8]) -> Result<(), Utf8Fault>
-    ensures is { λ r. ⌜ isOk r ≡ wellFormed (now (bytes .entry)) ⌝ }
-    ensures decides { λ r. ⌜ Decides (isOk r) (Utf8 (now (bytes .entry))) ⌝ }
-    ensures fault { λ r. ⌜ Verdict (now (bytes .entry)) r ⌝ }
+// Runs the machine byte by byte, up to the first fault or to its state at the end.
+fn scan(bytes: &[u8]) -> Result<Utf8State, Utf8Fault>
+    ensures { λ r. ⌜ Scanned (now (bytes .entry)) r ⌝ }
 {
     let mut state = Utf8State::Start;
     let mut place = run_end(bytes, 0, &Ascii);
@@ -56,8 +54,17 @@ pub fn check_utf8(bytes: &[u8]) -> Result<(), Utf8Fault>
             place = run_end(bytes, place, &Ascii);
         }
     }
-    match state {
+    Ok(state)
+}
+
+// Whether the bytes are well-formed UTF-8, and if not, where the first fault stands.
+pub fn check_utf8(bytes: &[u8]) -> Result<(), Utf8Fault>
+    ensures is { λ r. ⌜ isOk r ≡ wellFormed (now (bytes .entry)) ⌝ }
+    ensures decides { λ r. ⌜ Decides (isOk r) (Utf8 (now (bytes .entry))) ⌝ }
+    ensures fault { λ r. ⌜ Verdict (now (bytes .entry)) r ⌝ }
+{
+    match scan(bytes)? {
         Utf8State::Start => Ok(()),
-        _ => Err(Utf8Fault::End(place)),
+        _ => Err(Utf8Fault::End(bytes.len())),
     }
 }
