@@ -23,8 +23,8 @@ faultText told =
 
 abbrev pub reportText : PageReport → List ℕ
 reportText (Accepted bytes lines characters) =
-    codes "accepted: "
-    ++ (decimal bytes ++ (codes " bytes, " ++ (decimal lines ++ (codes " lines, " ++ (decimal characters ++ codes " characters")))))
+    codes "accepted: bytes "
+    ++ (decimal bytes ++ (codes ", lines " ++ (decimal lines ++ (codes ", characters " ++ decimal characters))))
 reportText (Refused refusal None) = codes "refused, number " ++ (decimal (numberOf refusal) ++ (codes ": " ++ reasonOf refusal))
 reportText (Refused refusal (Some told)) =
     codes "refused, number " ++ (decimal (numberOf refusal) ++ (codes ": " ++ (reasonOf refusal ++ (codes "; " ++ faultText told))))

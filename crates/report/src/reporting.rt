@@ -4,7 +4,7 @@ ghost use Rattle.std.specs.Results.{isOk};
 ghost use Rattle.std.specs.Text.{Utf8};
 ghost use Rattle.bytes.specs.declared.refusal.Refusal.the-variants.{NotUtf8};
 ghost use Rattle.bytes.specs.Refusals.{refusalOf, firstGround, IsText};
-ghost use Rattle.report.specs.Report.{wholeGrounds, accepted, Reported, FaultTold};
+ghost use Rattle.report.specs.Report.{wholeGrounds, accepted, Characters, Reported, FaultTold};
 use crate::page_report::FaultReport;
 use crate::page_report::PageReport;
 use bytes::ContinuationBytes;
@@ -18,6 +18,13 @@ use bytes::check_utf8;
 use bytes::count_members;
 use lines::count_lines;
 use lines::line_and_column;
+
+// How many characters a page has: its bytes but for the continuation bytes.
+fn count_characters(page: &[u8]) -> usize
+    ensures { λ r. ⌜ (Utf8 (now (page .entry)) → Characters (now (page .entry)) r) ⌝ }
+{
+    count_members(page, &Not(ContinuationBytes))
+}
 
 // Whether the page may be read whole: it is the area and its only text.
 fn check_whole(page: &[u8]) -> Result<(), Refusal>
@@ -56,7 +63,7 @@ pub fn report_page(page: &[u8]) -> PageReport
         Ok(()) => PageReport::Accepted {
             bytes: page.len(),
             lines: count_lines(page),
-            characters: count_members(page, &Not(ContinuationBytes)),
+            characters: count_characters(page),
         },
         Err(refusal) => PageReport::Refused {
             refusal,

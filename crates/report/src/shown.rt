@@ -31,26 +31,16 @@ pub impl fmt::Display for PageReport as PageReportDisplay {
                 characters,
             } => write!(
                 f,
-                "accepted: {bytes} bytes, {lines} lines, {characters} characters"
+                "accepted: bytes {bytes}, lines {lines}, characters {characters}"
             ),
-            PageReport::Refused {
-                refusal,
-                fault: None,
-            } => write!(
-                f,
-                "refused, number {}: {}",
-                refusal.number(),
-                refusal.reason()
-            ),
-            PageReport::Refused {
-                refusal,
-                fault: Some(told),
-            } => write!(
-                f,
-                "refused, number {}: {}; {told}",
-                refusal.number(),
-                refusal.reason()
-            ),
+            PageReport::Refused { refusal, fault } => {
+                let number = refusal.number();
+                let reason = refusal.reason();
+                match fault {
+                    None => write!(f, "refused, number {number}: {reason}"),
+                    Some(told) => write!(f, "refused, number {number}: {reason}; {told}"),
+                }
+            }
         }
     }
 }
