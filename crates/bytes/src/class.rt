@@ -110,7 +110,7 @@ pub impl ByteClass for DomainBytes as DomainBytesClass {
     ghost holds = { λ _ b. domainByte b };
 
     fn contains(&self, b: u8) -> bool {
-        b.is_ascii_alphanumeric() || matches!(b, b'-' | b'.' | b'_')
+        matches!(b, b'-' | b'.' | b'_') || b.is_ascii_alphanumeric()
     }
 }
 
