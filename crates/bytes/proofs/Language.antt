@@ -11,11 +11,13 @@ use lib.Utf8 as utf8
 use Rattle.std.specs.Orderings.{Decides}
 use Rattle.std.specs.Text.{Utf8, In}
 use Rattle.std.proofs.shelf.Text.{utf8-nil}
+use Rattle.std.proofs.shelf.Tests.{and-parts, eqb-true, false≢true}
 use Rattle.std.proofs.shelf.Ways.{tells}
 use Rattle.bytes.specs.declared.utf8_state.Utf8State.{Utf8State}
 use Rattle.bytes.specs.declared.utf8_state.Utf8State.the-variants.{Start, Due1, Due2, Due3, AfterE0, AfterEd, AfterF0, AfterF4, Fault}
 use Rattle.std.specs.Text.{within}
 use Rattle.bytes.specs.Machine.{first, next, accepts, atStart}
+use Rattle.bytes.proofs.Cases.{by, below}
 use Rattle.bytes.proofs.Encoded.{of-1, of-2, of-3, of-4, low, high, char3, char4, encode-1, encode-2, encode-3, encode-4}
 
 -- one byte of a range, and then what P says
@@ -41,7 +43,7 @@ Lang AfterF4 bs = Byte 128 143 Two bs
 Lang Fault bs = ⊥
 
 no-fault : (bs : List ℕ) → accepts Fault bs ≡ true → ⊥
-no-fault [] e = let z : _≡_ {A = ℕ} 0 1 = cc in omega arith
+no-fault [] e = false≢true e
 no-fault (b ∷ bs) e = no-fault bs e
 
 within-in : (lo hi b : ℕ) → within lo hi b ≡ true → In lo hi b
@@ -49,11 +51,6 @@ within-in lo hi b e = grind (arith, tells)
 
 in-within : (lo hi b : ℕ) → In lo hi b → within lo hi b ≡ true
 in-within lo hi b (l, h) = grind (arith, tells)
-
--- cases on a test, with what it came to
-by : {A : Type 0} (v : Bool) → (v ≡ true → A) → (v ≡ false → A) → A
-by true f g = f refl
-by false f g = g refl
 
 -- a byte that is due
 due : (lo hi b : ℕ) (t : Utf8State) (bs : List ℕ) → (accepts t bs ≡ true → Lang t bs) → accepts (cond (within lo hi b) t Fault) bs ≡ true → In lo hi b × Lang t bs
@@ -79,44 +76,38 @@ from-4 x lo hi (y ∷ z ∷ w ∷ ws) i ok (j, (k, (m, u))) = let f = ok y z w j
 two-ranges : (b : ℕ) → within 225 236 b || within 238 239 b ≡ true → In 225 236 b ⊎ In 238 239 b
 two-ranges b e = by (within 225 236 b) (λ q. inl (within-in 225 236 b q)) (λ q. inr (within-in 238 239 b (rw q at e)))
 
-is-num : (b n : ℕ) → eqb b n ≡ true → b ≡ n
-is-num b n e = grind (arith, tells)
-
 start : (b : ℕ) (bs : List ℕ) → Lang (first b) bs → Utf8 (b ∷ bs)
 start b bs l =
     by (leb b 127) (λ q. of-1 b bs (grind (arith, tells)) (rw q at l)) (λ q1.
     let l1 = rw q1 at l in
     by (within 194 223 b) (λ q. from-2 b bs (within-in 194 223 b q) (rw q at l1)) (λ q2.
     let l2 = rw q2 at l1 in
-    by (eqb b 224) (λ q. let e = is-num b 224 q in from-3 b 160 191 bs (omega arith, omega arith) (λ y z j k. ((omega arith, omega arith), omega arith, low (char3 b y z) (omega arith))) (rw q at l2)) (λ q3.
+    by (eqb b 224) (λ q. let e = eqb-true b 224 q in from-3 b 160 191 bs (omega arith, omega arith) (λ y z j k. ((omega arith, omega arith), omega arith, low (char3 b y z) (omega arith))) (rw q at l2)) (λ q3.
     let l3 = rw q3 at l2 in
     by (within 225 236 b || within 238 239 b) (λ q. ⊎-elim
     (λ i. from-3 b 128 191 bs (omega arith, omega arith) (λ y z j k. (j, omega arith, low (char3 b y z) (omega arith))) (rw q at l3))
     (λ i. from-3 b 128 191 bs (omega arith, omega arith) (λ y z j k. (j, omega arith, high (char3 b y z) (omega arith) (omega arith))) (rw q at l3))
     (two-ranges b q)) (λ q4.
     let l4 = rw q4 at l3 in
-    by (eqb b 237) (λ q. let e = is-num b 237 q in from-3 b 128 159 bs (omega arith, omega arith) (λ y z j k. ((omega arith, omega arith), omega arith, low (char3 b y z) (omega arith))) (rw q at l4)) (λ q5.
+    by (eqb b 237) (λ q. let e = eqb-true b 237 q in from-3 b 128 159 bs (omega arith, omega arith) (λ y z j k. ((omega arith, omega arith), omega arith, low (char3 b y z) (omega arith))) (rw q at l4)) (λ q5.
     let l5 = rw q5 at l4 in
-    by (eqb b 240) (λ q. let e = is-num b 240 q in from-4 b 144 191 bs (omega arith, omega arith) (λ y z w j k m. ((omega arith, omega arith), omega arith, omega arith)) (rw q at l5)) (λ q6.
+    by (eqb b 240) (λ q. let e = eqb-true b 240 q in from-4 b 144 191 bs (omega arith, omega arith) (λ y z w j k m. ((omega arith, omega arith), omega arith, omega arith)) (rw q at l5)) (λ q6.
     let l6 = rw q6 at l5 in
     by (within 241 243 b) (λ q. let e = within-in 241 243 b q in from-4 b 128 191 bs (omega arith, omega arith) (λ y z w j k m. (j, omega arith, omega arith)) (rw q at l6)) (λ q7.
     let l7 = rw q7 at l6 in
-    by (eqb b 244) (λ q. let e = is-num b 244 q in from-4 b 128 143 bs (omega arith, omega arith) (λ y z w j k m. ((omega arith, omega arith), omega arith, omega arith)) (rw q at l7))
+    by (eqb b 244) (λ q. let e = eqb-true b 244 q in from-4 b 128 143 bs (omega arith, omega arith) (λ y z w j k m. ((omega arith, omega arith), omega arith, omega arith)) (rw q at l7))
     (λ q8. absurd (rw q8 at l7)))))))))
-
-wrong : {A : Type 0} → false ≡ true → A
-wrong e = let z : _≡_ {A = ℕ} 0 1 = cc in absurd (omega arith)
 
 pub sound : (s : Utf8State) (bs : List ℕ) → accepts s bs ≡ true → Lang s bs
 sound Start [] e = utf8-nil
-sound Due1 [] e = wrong e
-sound Due2 [] e = wrong e
-sound Due3 [] e = wrong e
-sound AfterE0 [] e = wrong e
-sound AfterEd [] e = wrong e
-sound AfterF0 [] e = wrong e
-sound AfterF4 [] e = wrong e
-sound Fault [] e = wrong e
+sound Due1 [] e = absurd (false≢true e)
+sound Due2 [] e = absurd (false≢true e)
+sound Due3 [] e = absurd (false≢true e)
+sound AfterE0 [] e = absurd (false≢true e)
+sound AfterEd [] e = absurd (false≢true e)
+sound AfterF0 [] e = absurd (false≢true e)
+sound AfterF4 [] e = absurd (false≢true e)
+sound Fault [] e = absurd (false≢true e)
 sound Start (b ∷ bs) e = start b bs (sound (first b) bs e)
 sound Due1 (b ∷ bs) e = due 128 191 b Start bs (sound Start bs) e
 sound Due2 (b ∷ bs) e = due 128 191 b Due1 bs (sound Due1 bs) e
@@ -163,10 +154,6 @@ pass-3 x y z s rest p q r = rw (p, q, r)
 pass-4 : (x y z w : ℕ) (s : Utf8State) (rest : List ℕ) → first x ≡ s → next s y ≡ Due2 → within 128 191 z ≡ true → within 128 191 w ≡ true → accepts Start (x ∷ y ∷ z ∷ w ∷ rest) ≡ accepts Start rest
 pass-4 x y z w s rest p q r t = rw (p, q, r, t)
 
--- below a number, or not
-below : {A : Type 0} (c n : ℕ) → (c < n → A) → (n ≤ c → A) → A
-below c n f g = by (ltb c n) (λ q. f (grind (arith, tells))) (λ q. g (grind (arith, tells)))
-
 pass-char-3 : (c : ℕ) (rest : List ℕ) → 2048 ≤ c → c < 65536 → (c < 55296) ⊎ (57344 ≤ c) → accepts Start ((224 + c / 4096) ∷ utf8.next (c / 64) ∷ utf8.next c ∷ rest) ≡ accepts Start rest
 pass-char-3 c rest l h (inl s) =
     below c 4096
@@ -191,14 +178,10 @@ pass-char c rest s =
     (λ m. below c 65536 (λ h. rw (encode-3 c m h) (pass-char-3 c rest m h (⊎-elim inl (λ t. inr (t .0)) (scalar-cases c s))))
     (λ n. rw (encode-4 c n) (pass-char-4 c rest n (⊎-elim (λ t. omega arith) (λ t. t .1) (scalar-cases c s))))))
 
-both : (x y : Bool) → x && y ≡ true → (x ≡ true) × (y ≡ true)
-both true y e = (refl, e)
-both false y e = wrong e
-
 pub complete : (cs : List ℕ) → scalars cs ≡ true → accepts Start (encodes cs) ≡ true
 complete [] s = refl
 complete (c ∷ cs) s =
-    let t = both (scalar c) (scalars cs) s in pass-char c (encodes cs) (t .0) ∙ complete cs (t .1)
+    let t = and-parts (scalar c) (scalars cs) s in pass-char c (encodes cs) (t .0) ∙ complete cs (t .1)
 
 -- the machine decides UTF-8
 pub decides : (bs : List ℕ) → Decides (accepts Start bs) (Utf8 bs)

@@ -1,3 +1,4 @@
+pub mod Cases
 pub mod Tabled
 pub mod RunLaws
 pub mod Encoded

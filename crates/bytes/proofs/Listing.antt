@@ -15,6 +15,7 @@ use Rattle.std.specs.Orderings.{Decides}
 use Rattle.std.specs.shelf.Text.{sameBytes}
 use Rattle.std.proofs.shelf.Equals.{matches-decides, sameBytes-decides}
 use Rattle.bytes.specs.Runs.{runLength, runEnd}
+use Rattle.bytes.proofs.Cases.{by}
 use Rattle.bytes.specs.Names.{onFirst, linesOf, member, listed}
 
 abbrev pub notLF : ℕ → Bool
@@ -23,10 +24,6 @@ notLF b = not (eqb b 10)
 -- how long the first name is
 abbrev pub span : List ℕ → ℕ
 span t = runLength notLF t
-
-by : {A : Type 0} (v : Bool) → (v ≡ true → A) → (v ≡ false → A) → A
-by true f g = f refl
-by false f g = g refl
 
 -- the names behind the first LF
 abbrev behind : List ℕ → List (List ℕ)
