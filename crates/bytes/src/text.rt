@@ -34,7 +34,7 @@ pub fn check_area(area: &[u8]) -> Result<(), Refusal>
 // The part of the area with that start and length.
 pub fn text_part(area: &[u8], start: u32, len: u32) -> Result<&[u8], Refusal>
     ensures ground { λ r. ⌜ refusalOf r ≡ firstGround (partGrounds (now (area .entry)) start len) ⌝ }
-    ensures part { λ r. ⌜ made r (λ text. now text ≡ part (now (area .entry)) start len) ⌝ }
+    ensures value { λ r. ⌜ made r (λ text. now text ≡ part (now (area .entry)) start len) ⌝ }
 {
     let first = start as usize;
     let end = first + len as usize;
@@ -59,7 +59,7 @@ pub fn check_text(text: &[u8]) -> Result<(), Refusal>
 // The text of a page that starts somewhere in an area.
 pub fn checked_page(area: &[u8], start: u32, len: u32) -> Result<&[u8], Refusal>
     ensures ground { λ r. ⌜ refusalOf r ≡ firstGround (pageGrounds (now (area .entry)) start len) ⌝ }
-    ensures part { λ r. ⌜ made r (λ text. now text ≡ part (now (area .entry)) start len) ⌝ }
+    ensures value { λ r. ⌜ made r (λ text. now text ≡ part (now (area .entry)) start len) ⌝ }
     ensures exactly { λ r. ⌜ Decides (isOk r) (IsPage (now (area .entry)) start len) ⌝ }
 {
     check_area(area)?;
