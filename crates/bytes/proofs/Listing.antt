@@ -1,4 +1,4 @@
--- The names of a list one by one, and two names byte by byte.
+-- The lines of a list one by one, and two names byte by byte. Assumes nothing.
 use Prim.Native.Nat.{ℕ, suc, _+_, _-_, _<_, _≤_}
 use mathlib.Core.Path.{_≡_, refl, ap, sym, _∙_}
 use mathlib.Core.List.{List, [], _∷_}
@@ -12,9 +12,10 @@ use Rattle.std.proofs.shelf.Lists.{drop-all}
 use Rattle.std.proofs.shelf.Ways.{tells, same-from-decides, decides-like}
 use Rattle.std.specs.Lexical.{Matches}
 use Rattle.std.specs.Orderings.{Decides}
+use Rattle.std.specs.shelf.Lists.{leading}
 use Rattle.std.specs.shelf.Text.{sameBytes}
 use Rattle.std.proofs.shelf.Equals.{matches-decides, sameBytes-decides}
-use Rattle.bytes.specs.Runs.{runLength, runEnd}
+use Rattle.bytes.specs.Runs.{runEnd}
 use Rattle.bytes.proofs.Cases.{by}
 use Rattle.bytes.specs.Names.{onFirst, linesOf, member, listed}
 
@@ -23,7 +24,7 @@ notLF b = not (eqb b 10)
 
 -- how long the first name is
 abbrev pub span : List ℕ → ℕ
-span t = runLength notLF t
+span t = leading notLF t
 
 -- the names behind the first LF
 abbrev behind : List ℕ → List (List ℕ)
@@ -31,7 +32,6 @@ behind [] = []
 behind (b ∷ bs) = cond (eqb b 10) (linesOf bs) (behind bs)
 
 first-name : (t : List ℕ) → linesOf t ≡ take (span t) t ∷ behind t
-unfolding runLength
 first-name [] = refl
 first-name (b ∷ bs) =
     by (eqb b 10) (λ q. simp q)
@@ -39,7 +39,6 @@ first-name (b ∷ bs) =
 
 -- a name that is not empty stands behind the first LF if and only if it stands in what begins there
 behind-name : (name t : List ℕ) → 0 < length name → member name (behind t) ≡ member name (linesOf (drop (span t + 1) t))
-unfolding runLength
 behind-name [] t h = absurd (omega arith)
 behind-name (n ∷ ns) [] h = refl
 behind-name (n ∷ ns) (b ∷ bs) h =

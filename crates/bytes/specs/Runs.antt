@@ -1,18 +1,14 @@
 -- The longest run of a set of bytes from a place on. Assumes nothing.
-use mathlib.Core.Bool.{Bool, true, false, cond}
-use mathlib.Core.List.{List, [], _∷_}
+use mathlib.Core.Bool.{Bool, true, false}
+use mathlib.Core.List.{List}
 use mathlib.Core.Path.{_≡_}
-use Prim.Native.Nat.{ℕ, suc, _+_, _≤_, _<_}
+use Prim.Native.Nat.{ℕ, _+_, _≤_, _<_}
 use lib.ListN.{length, getD, drop}
+use Rattle.std.specs.shelf.Lists.{leading}
 
--- how many bytes at the front of a text are members
-unfoldable pub runLength : (ℕ → Bool) → List ℕ → ℕ
-runLength is [] = 0
-runLength is (b ∷ bs) = cond (is b) (suc (runLength is bs)) 0
-
--- where the longest run from a place ends
+-- where the longest run from a place ends: `leading` is how many bytes at the front are members
 unfoldable pub runEnd : (ℕ → Bool) → List ℕ → ℕ → ℕ
-runEnd is page from = from + runLength is (drop from page)
+runEnd is page from = from + leading is (drop from page)
 
 -- the longest run of members from a place goes up to `end`
 pub record LongestRun (is : ℕ → Bool) (page : List ℕ) (from end : ℕ) : Type 0 where
