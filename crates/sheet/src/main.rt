@@ -72,9 +72,13 @@ fn run(rt: &LibcRuntime) -> io::Result<bool> {
 }
 
 fn main(rt: LibcRuntime) -> io::Result<()> {
-    if run(&rt)? {
-        return Ok(());
+    match run(&rt) {
+        Ok(true) => Ok(()),
+        // the reason is told: this is the status alone
+        Ok(false) => Err(io::Error::from(io::ErrorKind::Other)),
+        Err(e) => {
+            eprintln!(rt, "sheet: {e}")?;
+            Err(e)
+        }
     }
-    // the reason is told: this is the status alone
-    Err(io::Error::from(io::ErrorKind::Other))
 }
