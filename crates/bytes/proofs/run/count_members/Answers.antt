@@ -8,12 +8,9 @@ use Rattle.bytes.proofs.run.count_members.Needs.{then-contains, else-contains}
 
 pub loop-b-again : need.loop-b-again
 loop-b-again g c =
-    let is = g .C·ByteClass .holds (c .args .class .now) in
-    let page = c .args .page .now in
-    let i = c .loop-b .b-index in
     elim (c .if-contains .came) [
-      | then-contains w ↦ let m = countBy-more-yes is page i 0 (c .loop-b-test .taken) (sym (w .if-contains .ensures tt)) in (omega (arith, w .count-is), omega (arith, w .count-is, m, c .loop-b .inv .1))
-      | else-contains w ↦ let m = countBy-more-no is page i 0 (c .loop-b-test .taken) (sym (w .if-contains .ensures tt)) in (omega (arith, w .count-is), omega (arith, w .count-is, m, c .loop-b .inv .1))
+      | then-contains w ↦ let m = countBy-more-yes (g .C·ByteClass .holds (c .args .class .now)) (c .args .page .now) (c .loop-b .b-index) 0 (c .loop-b-test .taken) (sym (w .if-contains .ensures tt)) in (omega (arith, w .count-is), omega (arith, w .count-is, m, c .loop-b .inv .1))
+      | else-contains w ↦ let m = countBy-more-no (g .C·ByteClass .holds (c .args .class .now)) (c .args .page .now) (c .loop-b .b-index) 0 (c .loop-b-test .taken) (sym (w .if-contains .ensures tt)) in (omega (arith, w .count-is), omega (arith, w .count-is, m, c .loop-b .inv .1))
     ]
 
 pub returns : need.returns
