@@ -128,6 +128,7 @@ fault-on-the-way bs i s h e no-fault f =
 -- the state at the end
 pub stopped : (bs : List ℕ) (s : Utf8State) → s ≡ after Start bs → (s ≡ Fault → ⊥) → Scanned bs (Ok s)
 stopped bs s e no-fault = (
+  e,
   λ start. yes-text bs (sym (ap atStart start) ∙ ap atStart e),
   λ due. let n = no bs (not-start s due ∙ ap atStart e) in (n .0, n .1, (refl, completable s bs e no-fault, n .1)),
 )

@@ -23,7 +23,9 @@ blank b = eqb b 9 || (within 11 12 b || eqb b 32)
 abbrev pub domainByte : ℕ → Bool
 domainByte b = asciiAlnum b || (within 45 46 b || eqb b 95)
 
--- what ends a word: tab, LF, VT, FF and CR; ESC; space and ! " #; % & ' ( ) * + , - . ; : ; < = > ? ; [ \ ] ^ _ ` ; { | } ~
+-- what ends a word, by ranges:
+--   tab, LF, VT, FF, CR     ESC     space ! " #     % & ' ( ) * + , - .
+--   : ; < = > ?             [ \ ] ^ _ `             { | } ~
 abbrev pub wordEnd : ℕ → Bool
 wordEnd b =
     within 9 13 b || (eqb b 27 || (within 32 35 b || (within 37 46 b || (within 58 63 b || (within 91 96 b || within 123 126 b)))))
@@ -31,11 +33,11 @@ wordEnd b =
 abbrev pub wordByte : ℕ → Bool
 wordByte b = not (wordEnd b)
 
--- a word byte but `@`
+-- a word's stem is what stands before its `@`: it is made of the word bytes but `@`
 abbrev pub stemByte : ℕ → Bool
 stemByte b = wordByte b && not (eqb b 64)
 
--- the classes that are asked for at every byte of a page, as bits of one number: 1 for a blank, 2 for a word byte, 4 for a stem byte
+-- three classes as bits of one number: 1 for a blank, 2 for a word byte, 4 for a stem byte
 abbrev pub classBits : ℕ → ℕ
 classBits b = cond (blank b) 1 0 + cond (wordByte b) 2 0 + cond (stemByte b) 4 0
 

@@ -30,7 +30,7 @@ next Fault b = Fault
 abbrev pub after : Utf8State → List ℕ → Utf8State
 after s bs = folded next s bs
 
--- nothing is due
+-- the machine stands between characters
 abbrev pub atStart : Utf8State → Bool
 atStart Start = true
 atStart Due1 = false

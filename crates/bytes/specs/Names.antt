@@ -20,10 +20,10 @@ abbrev pub member : List ℕ → List (List ℕ) → Bool
 member name [] = false
 member name (line ∷ lines) = sameBytes line name || member name lines
 
--- a written list: the name is one of its lines, and not empty
+-- a written list, whose lines are names: the name is one of them, and not empty
 abbrev pub listed : List ℕ → List ℕ → Bool
 listed list name = not (eqb (length name) 0) && member name (linesOf list)
 
--- a family: the name begins so, and is longer
+-- a family of names: they have a beginning in common, and each is longer
 abbrev pub inFamily : List ℕ → List ℕ → Bool
 inFamily beginning name = ltb (length beginning) (length name) && sameBytes (take (length beginning) name) beginning

@@ -38,7 +38,7 @@ abbrev pub firstGround : List (ℕ × Bool) → Option ℕ
 firstGround [] = None
 firstGround ((number, holds) ∷ grounds) = cond holds (Some number) (firstGround grounds)
 
--- the part of an area from a start on, with a length
+-- the part of an area from a start on, of a length, or shorter where the area ends first
 abbrev pub part : List ℕ → ℕ → ℕ → List ℕ
 part area start len = take len (drop start area)
 

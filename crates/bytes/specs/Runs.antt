@@ -20,5 +20,5 @@ pub record LongestRun (is : ℕ → Bool) (page : List ℕ) (from end : ℕ) : T
   pub within : from ≤ length page → end ≤ length page
   -- where it ends before the text does, no member stands
   pub stops : end < length page → is (getD page end 0) ≡ false
-  -- from a place past the text it ends at that place
+  -- from a place at the end or past it, it ends at that place
   pub past : length page ≤ from → end ≡ from

@@ -12,7 +12,7 @@ use Rattle.bytes.specs.declared.utf8_state.Utf8State.{Utf8State}
 use Rattle.bytes.specs.declared.utf8_state.Utf8State.the-variants.{Start}
 use Rattle.bytes.specs.declared.utf8_fault.Utf8Fault.{Utf8Fault}
 use Rattle.bytes.specs.declared.utf8_fault.Utf8Fault.the-variants.{Byte, End}
-use Rattle.bytes.specs.Machine.{accepts}
+use Rattle.bytes.specs.Machine.{after, accepts}
 
 -- the test that decides `Utf8`
 unfoldable pub wellFormed : List ℕ → Bool
@@ -22,12 +22,13 @@ wellFormed bs = accepts Start bs
 abbrev pub Completable : List ℕ → Type 0
 Completable bs = (rest : List ℕ) × Utf8 (bs ++ rest)
 
--- what a fault says: what stands before the byte can still be completed, and with the byte it cannot; or all of the text can, but is none
+-- what a fault says: the bytes before the place can still be completed, and with the byte there they cannot; or all of the bytes can be
+-- completed, but are not well-formed as they are
 abbrev pub FaultIn : List ℕ → Utf8Fault → Type 0
 FaultIn bs (Byte place) = (place < length bs) × Completable (take place bs) × (Completable (take (place + 1) bs) → ⊥)
 FaultIn bs (End len) = (len ≡ length bs) × Completable bs × (Utf8 bs → ⊥)
 
--- what a check's answer says: the text is well-formed, or has this fault
+-- what a check's answer says: the bytes are well-formed, or have this fault
 abbrev pub Verdict : List ℕ → Result (Unit {0}) Utf8Fault → Type 0
 Verdict bs (Ok u) = Utf8 bs
 Verdict bs (Err fault) = FaultIn bs fault
@@ -37,11 +38,14 @@ abbrev pub placeOf : Utf8Fault → ℕ
 placeOf (Byte place) = place
 placeOf (End len) = len
 
--- a text that is not well-formed, with its fault
+-- bytes that are not well-formed, with their fault
 abbrev pub Faulty : List ℕ → Utf8Fault → Type 0
 Faulty bs fault = (wellFormed bs ≡ false) × (Utf8 bs → ⊥) × FaultIn bs fault
 
--- what the machine says where it stops: the first fault, or by its state at the end whether the text ends between characters
+-- where the machine stops: at the first fault, or in its state after all of the bytes, which says whether they end between characters
 abbrev pub Scanned : List ℕ → Result Utf8State Utf8Fault → Type 0
-Scanned bs (Ok s) = (s ≡ Start → (wellFormed bs ≡ true) × Utf8 bs) × ((s ≡ Start → ⊥) → Faulty bs (End (length bs)))
+Scanned bs (Ok s) =
+    (s ≡ after Start bs)
+    × (s ≡ Start → (wellFormed bs ≡ true) × Utf8 bs)
+    × ((s ≡ Start → ⊥) → Faulty bs (End (length bs)))
 Scanned bs (Err fault) = Faulty bs fault

@@ -126,7 +126,7 @@ pub impl ByteClass for WordBytes as WordBytesClass {
     }
 }
 
-// What does not end a word and is not `@`: a word's stem is made of these.
+// What does not end a word and is not `@`: a word's stem, the part before its `@`, is made of these.
 #[derive(Clone, Copy)]
 pub struct StemBytes;
 

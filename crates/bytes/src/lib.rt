@@ -48,6 +48,8 @@ pub use refusal::Refusal;
 pub use refusal::RefusalDebug;
 pub use run::count_members;
 pub use run::run_end;
+pub use text::MAX_AREA;
+pub use text::MAX_TEXT;
 pub use text::RefusalFromFault;
 pub use text::check_area;
 pub use text::check_text;

@@ -35,7 +35,7 @@ pub impl NameSet for NoNames as NoNamesSet {
     }
 }
 
-// The names of a written list, parted by LF. An empty name is no member.
+// A written list: the names are its lines, separated by LF. An empty name is no member.
 #[derive(Clone, Copy)]
 pub struct Listed<'a>(pub &'a [u8]);
 

@@ -1,4 +1,4 @@
-// The longest run of a class, and how often it comes, each by one text for every class.
+// The end of the longest run of a class, and the number of its members: one function for all classes.
 ghost use mathlib.Core.Path.{_≡_};
 ghost use Rattle.std.specs.shelf.Lists.{countBy};
 ghost use Rattle.bytes.specs.Runs.{runEnd, LongestRun};

@@ -14,7 +14,7 @@ fn table_entry(b: u8) -> u8
     CLASS_BITS[b as usize]
 }
 
-// The classes of a byte among those three, as a sum.
+// The classes of a byte among those three, each by its bit.
 pub fn class_bits(b: u8) -> u8
     ensures blank { λ r. ⌜ hasBit r 1 ≡ blank b ⌝ }
     ensures word { λ r. ⌜ hasBit r 2 ≡ wordByte b ⌝ }

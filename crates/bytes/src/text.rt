@@ -9,9 +9,10 @@ use crate::refusal::Refusal;
 use crate::utf8::check_utf8;
 use crate::utf8_fault::Utf8Fault;
 
-const MAX_AREA: usize = 16_777_216;
+// The most bytes that an area may have, and a text.
+pub const MAX_AREA: usize = 16_777_216;
 
-const MAX_TEXT: usize = 1_048_576;
+pub const MAX_TEXT: usize = 1_048_576;
 
 pub impl From<Utf8Fault> for Refusal as RefusalFromFault {
     ghost converts = { λ _ r. r ≡ NotUtf8 };

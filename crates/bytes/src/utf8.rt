@@ -37,7 +37,7 @@ impl Utf8State {
     }
 }
 
-// Runs the machine byte by byte, up to the first fault or to its state at the end.
+// Runs the machine over the bytes, up to the first fault or to its state after all of them.
 fn scan(bytes: &[u8]) -> Result<Utf8State, Utf8Fault>
     ensures { λ r. ⌜ Scanned (now (bytes .entry)) r ⌝ }
 {
@@ -49,7 +49,7 @@ fn scan(bytes: &[u8]) -> Result<Utf8State, Utf8Fault>
             return Err(Utf8Fault::Byte(place));
         }
         place += 1;
-        // where nothing is due, the ASCII ahead is passed at once
+        // where nothing is due, the ASCII bytes ahead leave the machine as it is
         if let Utf8State::Start = state {
             place = run_end(bytes, place, &Ascii);
         }

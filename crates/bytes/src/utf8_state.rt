@@ -15,6 +15,6 @@ pub enum Utf8State {
     AfterF0,
     // after F4 three, the next in 80..=8F, so that none is above 10FFFF
     AfterF4,
-    // a byte stood where none of its range may: no text goes on from here
+    // a byte outside the allowed range was read: no text goes on from here
     Fault,
 }

@@ -16,7 +16,7 @@ use Rattle.report.specs.declared.page_report.FaultReport.{FaultReport}
 use Rattle.report.specs.declared.page_report.PageReport.{PageReport}
 use Rattle.report.specs.declared.page_report.PageReport.the-variants.{Accepted, Refused}
 
--- the grounds on which a page is refused that is all of its area, in the order in which they are tried
+-- the grounds for refusing a page that is its whole area, in the order in which they are tried
 abbrev pub wholeGrounds : List ℕ → List (ℕ × Bool)
 wholeGrounds page = areaGrounds page ++ textGrounds page
 
@@ -24,7 +24,7 @@ wholeGrounds page = areaGrounds page ++ textGrounds page
 abbrev pub Characters : List ℕ → ℕ → Type 0
 Characters page n = (cs : List ℕ) × (scalars cs ≡ true) × (encodes cs ≡ page) × (n ≡ length cs)
 
--- a fault is told exactly where the page is not well-formed UTF-8, with the line and the column of its place
+-- a fault is reported exactly where the refusal is `NotUtf8`, with the line and the column of its place
 abbrev pub FaultTold : List ℕ → Refusal → Option FaultReport → Type 0
 FaultTold page NotUtf8 None = ⊥
 FaultTold page NotUtf8 (Some told) =
@@ -41,6 +41,7 @@ Reported page (Accepted bytes lines characters) =
     (firstGround (wholeGrounds page) ≡ None) × (bytes ≡ length page) × (lines ≡ lineCount page) × Characters page characters
 Reported page (Refused refusal fault) = (firstGround (wholeGrounds page) ≡ Some (numberOf refusal)) × FaultTold page refusal fault
 
+-- the printer may have the page
 abbrev pub accepted : PageReport → Bool
 accepted (Accepted bytes lines characters) = true
 accepted (Refused refusal fault) = false

@@ -18,7 +18,7 @@ pub enum PageReport {
         lines: usize,
         characters: usize,
     },
-    // it may not; a fault is told where the bytes are not well-formed UTF-8
+    // it may not; a fault is reported where the refusal is `NotUtf8`
     Refused {
         refusal: Refusal,
         fault: Option<FaultReport>,

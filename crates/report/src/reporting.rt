@@ -1,4 +1,5 @@
 ghost use mathlib.Core.Path.{_≡_};
+ghost use Rattle.std.specs.declared.option.Option.the-variants.{Some};
 ghost use Rattle.std.specs.Orderings.{Decides};
 ghost use Rattle.std.specs.Results.{isOk};
 ghost use Rattle.std.specs.Text.{Utf8};
@@ -19,7 +20,7 @@ use bytes::count_members;
 use lines::count_lines;
 use lines::line_and_column;
 
-// How many characters a page has: its bytes but for the continuation bytes.
+// How many characters a well-formed page has: its bytes but for the continuation bytes.
 fn count_characters(page: &[u8]) -> usize
     ensures { λ r. ⌜ (Utf8 (now (page .entry)) → Characters (now (page .entry)) r) ⌝ }
 {
@@ -35,23 +36,22 @@ fn check_whole(page: &[u8]) -> Result<(), Refusal>
     check_text(page)
 }
 
-// The fault of a page that was refused, if it was refused for one.
-fn fault_report(page: &[u8], refusal: Refusal) -> Option<FaultReport>
-    requires { ⌜ (refusal ≡ NotUtf8 → Utf8 (now page) → ⊥) ⌝ }
-    ensures { λ r. ⌜ FaultTold (now (page .entry)) refusal r ⌝ }
+// The fault of a page that is not well-formed UTF-8, with its line and column.
+fn fault_report(page: &[u8]) -> FaultReport
+    requires { ⌜ (Utf8 (now page) → ⊥) ⌝ }
+    ensures { λ r. ⌜ FaultTold (now (page .entry)) NotUtf8 (Some r) ⌝ }
 {
-    let Refusal::NotUtf8 = refusal else {
-        return None;
-    };
-    let Err(fault) = check_utf8(page) else {
-        return None;
-    };
-    let (line, column) = line_and_column(page, fault.place());
-    Some(FaultReport {
-        fault,
-        line,
-        column,
-    })
+    match check_utf8(page) {
+        Ok(()) => unreachable(),
+        Err(fault) => {
+            let (line, column) = line_and_column(page, fault.place());
+            FaultReport {
+                fault,
+                line,
+                column,
+            }
+        }
+    }
 }
 
 // Whether the printer may have the page: how many bytes, lines and characters it has, or why not.
@@ -65,9 +65,21 @@ pub fn report_page(page: &[u8]) -> PageReport
             lines: count_lines(page),
             characters: count_characters(page),
         },
+        Err(Refusal::NotUtf8) => PageReport::Refused {
+            refusal: Refusal::NotUtf8,
+            fault: Some(fault_report(page)),
+        },
         Err(refusal) => PageReport::Refused {
             refusal,
-            fault: fault_report(page, refusal),
+            fault: None,
         },
+    }
+}
+
+impl PageReport {
+    pub fn is_accepted(&self) -> bool
+        ensures { λ r. ⌜ r ≡ accepted (now (self .entry)) ⌝ }
+    {
+        matches!(self, PageReport::Accepted { .. })
     }
 }

@@ -1,7 +1,11 @@
 //! sheet PAGE: says whether the printer may have a page.
-use report::PageReport;
+mod request;
+
+use bytes::MAX_AREA;
 use report::PageReportDisplay;
 use report::report_page;
+use request::Request;
+use request::requested;
 use std::env;
 use std::fs;
 use std::io;
@@ -9,22 +13,24 @@ use std::io::Read;
 
 const USAGE: &str = "usage: sheet PAGE   (a file's path, or - for standard input)";
 
-// One byte more than an area may have: what is longer is refused, and not held whole for that.
-const MOST: u64 = 16_777_217;
+// One byte more than an area may have: a longer file is refused without being read whole.
+const MOST: u64 = MAX_AREA as u64 + 1;
 
-fn read_page(rt: &LibcRuntime, name: &str) -> io::Result<Vec<u8>> {
+fn read_file(rt: &LibcRuntime, path: &str) -> io::Result<Vec<u8>> {
     let mut page = Vec::new(rt.alloc());
-    if name == "-" {
-        rt.stdin().take(MOST).read_to_end(&mut page)?;
-    } else {
-        fs::open(rt, name)?.take(MOST).read_to_end(&mut page)?;
-    }
+    fs::open(rt, path)?.take(MOST).read_to_end(&mut page)?;
     Ok(page)
 }
 
-// Tells what is said of the page: an accepted one on standard output, a refused one on standard error. Whether it was accepted.
-fn tell(rt: &LibcRuntime, name: &str) -> io::Result<bool> {
-    let page = match read_page(rt, name) {
+fn read_stdin(rt: &LibcRuntime) -> io::Result<Vec<u8>> {
+    let mut page = Vec::new(rt.alloc());
+    rt.stdin().take(MOST).read_to_end(&mut page)?;
+    Ok(page)
+}
+
+// Reports an accepted page on standard output, and on standard error a refused one or why it cannot be read. Whether it was accepted.
+fn tell(rt: &LibcRuntime, name: &str, read: io::Result<Vec<u8>>) -> io::Result<bool> {
+    let page = match read {
         Ok(page) => page,
         Err(e) => {
             eprintln!(rt, "sheet: {name}: {e}")?;
@@ -32,12 +38,13 @@ fn tell(rt: &LibcRuntime, name: &str) -> io::Result<bool> {
         }
     };
     let report = report_page(&page);
-    if let PageReport::Accepted { .. } = report {
+    let accepted = report.is_accepted();
+    if accepted {
         println!(rt, "{name}: {report}")?;
-        return Ok(true);
+    } else {
+        eprintln!(rt, "sheet: {name}: {report}")?;
     }
-    eprintln!(rt, "sheet: {name}: {report}")?;
-    Ok(false)
+    Ok(accepted)
 }
 
 fn tell_usage(rt: &LibcRuntime) -> io::Result<bool> {
@@ -45,21 +52,20 @@ fn tell_usage(rt: &LibcRuntime) -> io::Result<bool> {
     Ok(false)
 }
 
-fn tell_no_option(rt: &LibcRuntime, option: &str) -> io::Result<bool> {
-    eprintln!(rt, "sheet: there is no option {option}")?;
-    tell_usage(rt)
-}
-
-// Does what the one argument asks for. Whether it was done.
+// Does what the argument asks for. Whether it was done.
 fn obey(rt: &LibcRuntime, argument: &str) -> io::Result<bool> {
-    if argument == "--help" {
-        println!(rt, "{USAGE}")?;
-        return Ok(true);
+    match requested(argument) {
+        Request::Help => {
+            println!(rt, "{USAGE}")?;
+            Ok(true)
+        }
+        Request::StandardInput => tell(rt, argument, read_stdin(rt)),
+        Request::File => tell(rt, argument, read_file(rt, argument)),
+        Request::UnknownOption => {
+            eprintln!(rt, "sheet: there is no option {argument}")?;
+            tell_usage(rt)
+        }
     }
-    if argument == "-" || !argument.starts_with('-') {
-        return tell(rt, argument);
-    }
-    tell_no_option(rt, argument)
 }
 
 fn run(rt: &LibcRuntime) -> io::Result<bool> {

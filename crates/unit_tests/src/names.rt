@@ -39,8 +39,10 @@ fn a_family() -> Result<(), Fail> {
     check(!family.contains_name(b"lot-")).note("the beginning itself")?;
     check(!family.contains_name(b"lot")).note("a shorter word")?;
     check(!family.contains_name(b"lat-7")).note("another beginning")?;
-    check(!Family(b"").contains_name(b"")).note("no word begins with nothing and is not longer")?;
-    check(Family(b"").contains_name(b"x")).note("every word does, but the empty one")
+    check(!Family(b"").contains_name(b"")).note("the empty name is in no family")?;
+    check(Family(b"").contains_name(b"x")).note(
+        "every other name is in that of the empty beginning",
+    )
 }
 
 #[test]

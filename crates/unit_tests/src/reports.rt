@@ -24,6 +24,12 @@ fn accepted_pages(rt: LibcRuntime) -> Result<(), Fail> {
 }
 
 #[test]
+fn which_pages_are_accepted() -> Result<(), Fail> {
+    check(report_page(b"net 9 kg\n").is_accepted())?;
+    check(!report_page(b"M\xFChlfeld").is_accepted())
+}
+
+#[test]
 fn faulty_pages(rt: LibcRuntime) -> Result<(), Fail> {
     says(
         &rt,
