@@ -25,21 +25,21 @@ abbrev pub Characters : List ℕ → ℕ → Type 0
 Characters page n = (cs : List ℕ) × (scalars cs ≡ true) × (encodes cs ≡ page) × (n ≡ length cs)
 
 -- a fault is reported exactly where the refusal is `NotUtf8`, with the line and the column of its place
-abbrev pub FaultTold : List ℕ → Refusal → Option FaultReport → Type 0
-FaultTold page NotUtf8 None = ⊥
-FaultTold page NotUtf8 (Some told) =
-    FaultIn page (told .fault)
-    × (told .line ≡ lineOf page (placeOf (told .fault)))
-    × (told .column ≡ columnOf page (placeOf (told .fault)))
-FaultTold page AreaTooLong fault = fault ≡ None
-FaultTold page PastArea fault = fault ≡ None
-FaultTold page TextTooLong fault = fault ≡ None
+abbrev pub FaultReported : List ℕ → Refusal → Option FaultReport → Type 0
+FaultReported page NotUtf8 None = ⊥
+FaultReported page NotUtf8 (Some found) =
+    FaultIn page (found .fault)
+    × (found .line ≡ lineOf page (placeOf (found .fault)))
+    × (found .column ≡ columnOf page (placeOf (found .fault)))
+FaultReported page AreaTooLong fault = fault ≡ None
+FaultReported page PastArea fault = fault ≡ None
+FaultReported page TextTooLong fault = fault ≡ None
 
 -- where no ground holds, the page's size; else the first ground, and the fault
 abbrev pub Reported : List ℕ → PageReport → Type 0
 Reported page (Accepted bytes lines characters) =
     (firstGround (wholeGrounds page) ≡ None) × (bytes ≡ length page) × (lines ≡ lineCount page) × Characters page characters
-Reported page (Refused refusal fault) = (firstGround (wholeGrounds page) ≡ Some (numberOf refusal)) × FaultTold page refusal fault
+Reported page (Refused refusal fault) = (firstGround (wholeGrounds page) ≡ Some (numberOf refusal)) × FaultReported page refusal fault
 
 -- the printer may have the page
 abbrev pub accepted : PageReport → Bool

@@ -17,14 +17,14 @@ faultWords (Byte place) = codes "no character has this byte here"
 faultWords (End len) = codes "the text ends inside a character"
 
 abbrev pub faultText : FaultReport → List ℕ
-faultText told =
+faultText found =
     codes "place "
-    ++ (decimal (placeOf (told .fault)) ++ (codes ", line " ++ (decimal (told .line) ++ (codes ", column " ++ (decimal (told .column) ++ (codes ": " ++ faultWords (told .fault)))))))
+    ++ (decimal (placeOf (found .fault)) ++ (codes ", line " ++ (decimal (found .line) ++ (codes ", column " ++ (decimal (found .column) ++ (codes ": " ++ faultWords (found .fault)))))))
 
 abbrev pub reportText : PageReport → List ℕ
 reportText (Accepted bytes lines characters) =
     codes "accepted: bytes "
     ++ (decimal bytes ++ (codes ", lines " ++ (decimal lines ++ (codes ", characters " ++ decimal characters))))
 reportText (Refused refusal None) = codes "refused, number " ++ (decimal (numberOf refusal) ++ (codes ": " ++ reasonOf refusal))
-reportText (Refused refusal (Some told)) =
-    codes "refused, number " ++ (decimal (numberOf refusal) ++ (codes ": " ++ (reasonOf refusal ++ (codes "; " ++ faultText told))))
+reportText (Refused refusal (Some found)) =
+    codes "refused, number " ++ (decimal (numberOf refusal) ++ (codes ": " ++ (reasonOf refusal ++ (codes "; " ++ faultText found))))

@@ -5,7 +5,7 @@ ghost use Rattle.std.specs.Results.{isOk};
 ghost use Rattle.std.specs.Text.{Utf8};
 ghost use Rattle.bytes.specs.declared.refusal.Refusal.the-variants.{NotUtf8};
 ghost use Rattle.bytes.specs.Refusals.{refusalOf, firstGround, IsText};
-ghost use Rattle.report.specs.Report.{wholeGrounds, accepted, Characters, Reported, FaultTold};
+ghost use Rattle.report.specs.Report.{wholeGrounds, accepted, Characters, Reported, FaultReported};
 use crate::page_report::FaultReport;
 use crate::page_report::PageReport;
 use bytes::ContinuationBytes;
@@ -39,7 +39,7 @@ fn check_whole(page: &[u8]) -> Result<(), Refusal>
 // The fault of a page that is not well-formed UTF-8, with its line and column.
 fn fault_report(page: &[u8]) -> FaultReport
     requires { ⌜ (Utf8 (now page) → ⊥) ⌝ }
-    ensures { λ r. ⌜ FaultTold (now (page .entry)) NotUtf8 (Some r) ⌝ }
+    ensures { λ r. ⌜ FaultReported (now (page .entry)) NotUtf8 (Some r) ⌝ }
 {
     match check_utf8(page) {
         Ok(()) => unreachable(),

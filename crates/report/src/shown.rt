@@ -6,7 +6,7 @@ use bytes::Utf8Fault;
 use std::fmt;
 
 pub impl fmt::Display for FaultReport as FaultReportDisplay {
-    ghost shown = { λ told. Some (faultText told) };
+    ghost shown = { λ found. Some (faultText found) };
 
     fn fmt<W: fmt::Write>(&self, f: &mut fmt::Formatter<W>) -> fmt::Result {
         let place = self.fault.place();
@@ -38,7 +38,7 @@ pub impl fmt::Display for PageReport as PageReportDisplay {
                 let reason = refusal.reason();
                 match fault {
                     None => write!(f, "refused, number {number}: {reason}"),
-                    Some(told) => write!(f, "refused, number {number}: {reason}; {told}"),
+                    Some(found) => write!(f, "refused, number {number}: {reason}; {found}"),
                 }
             }
         }

@@ -29,7 +29,7 @@ fn read_stdin(rt: &LibcRuntime) -> io::Result<Vec<u8>> {
 }
 
 // Reports an accepted page on standard output, and on standard error a refused one or why it cannot be read. Whether it was accepted.
-fn tell(rt: &LibcRuntime, name: &str, read: io::Result<Vec<u8>>) -> io::Result<bool> {
+fn print_report(rt: &LibcRuntime, name: &str, read: io::Result<Vec<u8>>) -> io::Result<bool> {
     let page = match read {
         Ok(page) => page,
         Err(e) => {
@@ -47,23 +47,23 @@ fn tell(rt: &LibcRuntime, name: &str, read: io::Result<Vec<u8>>) -> io::Result<b
     Ok(accepted)
 }
 
-fn tell_usage(rt: &LibcRuntime) -> io::Result<bool> {
+fn print_usage(rt: &LibcRuntime) -> io::Result<bool> {
     eprintln!(rt, "{USAGE}")?;
     Ok(false)
 }
 
 // Does what the argument asks for. Whether it was done.
-fn obey(rt: &LibcRuntime, argument: &str) -> io::Result<bool> {
+fn answer(rt: &LibcRuntime, argument: &str) -> io::Result<bool> {
     match requested(argument) {
         Request::Help => {
             println!(rt, "{USAGE}")?;
             Ok(true)
         }
-        Request::StandardInput => tell(rt, argument, read_stdin(rt)),
-        Request::File => tell(rt, argument, read_file(rt, argument)),
+        Request::StandardInput => print_report(rt, argument, read_stdin(rt)),
+        Request::File => print_report(rt, argument, read_file(rt, argument)),
         Request::UnknownOption => {
             eprintln!(rt, "sheet: there is no option {argument}")?;
-            tell_usage(rt)
+            print_usage(rt)
         }
     }
 }
@@ -72,15 +72,15 @@ fn run(rt: &LibcRuntime) -> io::Result<bool> {
     let mut args = env::args(rt)?;
     args.next();
     if let (Some(argument), None) = (args.next(), args.next()) {
-        return obey(rt, argument.as_str());
+        return answer(rt, argument.as_str());
     }
-    tell_usage(rt)
+    print_usage(rt)
 }
 
 fn main(rt: LibcRuntime) -> io::Result<()> {
     match run(&rt) {
         Ok(true) => Ok(()),
-        // the reason is told: this is the status alone
+        // the reason stands on standard error: this is the status alone
         Ok(false) => Err(io::Error::from(io::ErrorKind::Other)),
         Err(e) => {
             eprintln!(rt, "sheet: {e}")?;
