@@ -1,7 +1,7 @@
 -- The machine byte by byte: what it passes, what its states say of the bytes so far, and what a fault means. Assumes nothing.
 use Prim.Native.Nat.{ℕ, zero, suc, _+_, _-_, _<_, _≤_}
 use mathlib.Core.Path.{_≡_, refl, sym, ap, subst, _∙_}
-use mathlib.Core.Bool.{Bool, true, false}
+use mathlib.Core.Bool.{true, false}
 use mathlib.Core.List.{List, [], _∷_, _++_}
 use native.Mathlib.Omega.{arith}
 use lib.ListN.{length, getD, take, drop, take-append-drop}
@@ -16,7 +16,7 @@ use Rattle.bytes.specs.declared.utf8_state.Utf8State.the-variants.{Start, Due1
 use Rattle.bytes.specs.Classes.{ascii}
 use Rattle.bytes.specs.Machine.{next, after, accepts, atStart}
 use Rattle.bytes.specs.Runs.{LongestRun}
-use Rattle.bytes.specs.declared.utf8_fault.Utf8Fault.the-variants.{Byte, End}
+use Rattle.bytes.specs.declared.utf8_fault.Utf8Fault.the-variants.{Byte}
 use Rattle.bytes.specs.Utf8.{wellFormed, Completable, Faulty, Scanned}
 use Rattle.bytes.proofs.Language.{decides, decided}
 

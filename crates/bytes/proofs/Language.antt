@@ -1,24 +1,23 @@
--- What the machine accepts from each state, in the words of UTF-8, and the other way round.
-use Prim.Native.Nat.{ℕ, _+_, _*_, _/_, _≤_, _<_}
-use mathlib.Core.Path.{_≡_, refl, ap, sym, subst, _∙_}
+-- What the machine accepts from each state, in the words of UTF-8, and the other way round. Assumes nothing.
+use Prim.Native.Nat.{ℕ, _+_, _/_, _≤_, _<_}
+use mathlib.Core.Path.{_≡_, refl, ap, subst, _∙_}
 use mathlib.Core.List.{List, [], _∷_, _++_}
-use mathlib.Core.Bool.{Bool, true, false, cond, _&&_, _||_}
+use mathlib.Core.Bool.{Bool, true, false, cond, _||_}
 use mathlib.Core.Logic.{_⊎_, inl, inr, ⊎-elim}
 use native.Mathlib.Omega.{arith}
-use lib.Dec.{leb, eqb, ltb}
+use lib.Dec.{leb, eqb}
 use lib.Utf8.{encode, encodes, scalar, scalars, scalar-cases}
 use lib.Utf8 as utf8
 use Rattle.std.specs.Orderings.{Decides}
-use Rattle.std.specs.Text.{Utf8, In}
-use Rattle.std.proofs.shelf.Text.{utf8-nil}
+use Rattle.std.specs.Text.{Utf8, In, within}
+use Rattle.std.proofs.shelf.Text.{utf8-nil, encode-ascii}
 use Rattle.std.proofs.shelf.Tests.{and-parts, eqb-true, false≢true}
 use Rattle.std.proofs.shelf.Ways.{tells}
 use Rattle.bytes.specs.declared.utf8_state.Utf8State.{Utf8State}
 use Rattle.bytes.specs.declared.utf8_state.Utf8State.the-variants.{Start, Due1, Due2, Due3, AfterE0, AfterEd, AfterF0, AfterF4, Fault}
-use Rattle.std.specs.Text.{within}
-use Rattle.bytes.specs.Machine.{first, next, accepts, atStart}
+use Rattle.bytes.specs.Machine.{first, next, accepts}
 use Rattle.bytes.proofs.Cases.{by, below}
-use Rattle.bytes.proofs.Encoded.{of-1, of-2, of-3, of-4, low, high, char3, char4, encode-1, encode-2, encode-3, encode-4}
+use Rattle.bytes.proofs.Encoded.{of-1, of-2, of-3, of-4, low, high, char3, char4, encode-2, encode-3, encode-4}
 
 -- one byte of a range, and then what P says
 abbrev Byte : ℕ → ℕ → (List ℕ → Type 0) → List ℕ → Type 0
@@ -173,7 +172,7 @@ pass-char-4 c rest l h =
 
 pass-char : (c : ℕ) (rest : List ℕ) → scalar c ≡ true → accepts Start (encode c ++ rest) ≡ accepts Start rest
 pass-char c rest s =
-    below c 128 (λ h. rw (encode-1 c h) (pass-1 c rest (first-1 c h)))
+    below c 128 (λ h. rw (encode-ascii c h) (pass-1 c rest (first-1 c h)))
     (λ l. below c 2048 (λ h. rw (encode-2 c l h) (pass-2 (192 + c / 64) (utf8.next c) rest (first-2 (192 + c / 64) (omega arith, omega arith)) (tail-in c)))
     (λ m. below c 65536 (λ h. rw (encode-3 c m h) (pass-char-3 c rest m h (⊎-elim inl (λ t. inr (t .0)) (scalar-cases c s))))
     (λ n. rw (encode-4 c n) (pass-char-4 c rest n (⊎-elim (λ t. omega arith) (λ t. t .1) (scalar-cases c s))))))

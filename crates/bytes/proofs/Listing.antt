@@ -2,10 +2,10 @@
 use Prim.Native.Nat.{ℕ, suc, _+_, _-_, _<_, _≤_}
 use mathlib.Core.Path.{_≡_, refl, ap, sym, _∙_}
 use mathlib.Core.List.{List, [], _∷_}
-use mathlib.Core.Bool.{Bool, true, false, cond, not, _&&_, _||_}
+use mathlib.Core.Bool.{Bool, true, false, cond, not, _||_}
 use native.Mathlib.Omega.{arith}
 use native.Mathlib.Numerals.{add-one, one-add}
-use lib.Dec.{eqb, ltb}
+use lib.Dec.{eqb}
 use lib.ListN.{length, getD, take, drop}
 use lib.Seq.{drop-cons, drop-drop}
 use Rattle.std.proofs.shelf.Lists.{drop-all}
@@ -17,7 +17,7 @@ use Rattle.std.specs.shelf.Text.{sameBytes}
 use Rattle.std.proofs.shelf.Equals.{matches-decides, sameBytes-decides}
 use Rattle.bytes.specs.Runs.{runEnd}
 use Rattle.bytes.proofs.Cases.{by}
-use Rattle.bytes.specs.Names.{onFirst, linesOf, member, listed}
+use Rattle.bytes.specs.Names.{linesOf, member, listed}
 
 abbrev pub notLF : ℕ → Bool
 notLF b = not (eqb b 10)

@@ -2,19 +2,20 @@
 use Prim.Native.Nat.{ℕ, _+_, _/_, _<_, _≤_}
 use mathlib.Core.Path.{_≡_, refl, sym, ap, _∙_}
 use mathlib.Core.Bool.{Bool, true, false, cond, not}
-use mathlib.Core.List.{List, [], _∷_, _++_}
+use mathlib.Core.List.{List, [], _∷_}
 use mathlib.Core.Logic.{⊎-elim}
 use native.Mathlib.Omega.{arith}
 use lib.ListN.{length}
-use lib.Utf8.{encode, encodes, scalars}
+use lib.Utf8.{encode, encodes}
 use lib.Utf8 as utf8
 use Rattle.std.specs.Text.{Utf8, In}
 use Rattle.std.specs.shelf.Lists.{countBy}
 use Rattle.std.proofs.shelf.Sums.{sumBy-append}
+use Rattle.std.proofs.shelf.Text.{encode-ascii}
 use Rattle.std.proofs.shelf.Tests.{cases-lt}
 use Rattle.std.proofs.shelf.Ways.{tells}
 use Rattle.bytes.specs.Classes.{continuation}
-use Rattle.bytes.proofs.Encoded.{encode-1, encode-2, encode-3, encode-4}
+use Rattle.bytes.proofs.Encoded.{encode-2, encode-3, encode-4}
 use Rattle.report.specs.Report.{Characters}
 
 abbrev pub leads : ℕ → Bool
@@ -32,7 +33,7 @@ small b h = grind (arith, tells)
 one : (c : ℕ) → countBy leads (encode c) ≡ 1
 one c =
     ⊎-elim
-    (λ h. rw (encode-1 c h) (rw (small c h) refl))
+    (λ h. rw (encode-ascii c h) (rw (small c h) refl))
     (λ l. ⊎-elim
     (λ h. rw (encode-2 c l h) (rw (first (192 + c / 64) (omega arith), tail c) refl))
     (λ m. ⊎-elim

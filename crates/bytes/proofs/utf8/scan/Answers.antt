@@ -1,4 +1,3 @@
-use Prim.Native.Nat.{_+_}
 use mathlib.Core.Path.{refl, sym, _∙_}
 use native.Mathlib.Omega.{arith}
 use Rattle.bytes.proofs.Faults.{after-more, pass-run, fault-on-the-way, stopped, at-end, start-no-fault}
