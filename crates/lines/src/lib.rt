@@ -2,7 +2,7 @@
 ghost use Rattle.std.specs.Prelude.{◌≡◌};
 ghost use Rattle.lines.specs.Lines.{line_after, column_after, line_of, column_of, line_count};
 
-use bytes::{OneByte, count_members};
+use page_bytes::{OneByte, count_members};
 
 // The line and the column behind the last of some bytes.
 fn position_after(front: &[u8]) -> (usize, usize)

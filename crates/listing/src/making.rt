@@ -6,7 +6,7 @@ ghost use Rattle.token.specs.Places.{most};
 ghost use Rattle.listing.specs.Listed.{all_listed};
 
 use crate::listed::{ListedToken, Listing};
-use bytes::NameSet;
+use page_bytes::NameSet;
 use source_lexer::SourceLexer;
 use std::alloc::{AllocError, Global};
 use token::Place;

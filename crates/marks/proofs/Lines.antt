@@ -3,7 +3,7 @@ use Rattle.std.proofs.Common.{◌≡◌, ℕ, ◌-◌, ◌<◌, ◌≤◌, Bool,
 use Rattle.std.proofs.lemmas.List.{get_or_past}
 use Rattle.std.proofs.lemmas.Bool.Decides.{nat_tests}
 use Rattle.std.proofs.lemmas.Bool.{cond-true, cond-false, and_right, cases_Bool, cases_lt, both_ways, eq-eqb, and_parts, and_from, true≢false}
-use Rattle.bytes.proofs.RunLaws.{run_end-le, run_end-ends, run_end-is, run_end-gt}
+use Rattle.page_bytes.proofs.RunLaws.{run_end-le, run_end-ends, run_end-is, run_end-gt}
 use Rattle.marks.specs.Places.{is_at, line_start, mark_run}
 use Rattle.marks.specs.Delimiter.{fence, code_fence, line_ends, closed, delimits, DelimiterAt, delimiter_end}
 use Rattle.marks.proofs.Spells.{passed, run-all, inside, class-inside}

@@ -2,8 +2,8 @@
 use Rattle.std.proofs.Common.{◌≡◌, ℕ, ◌+◌, ◌<◌, ◌≤◌, Bool, true, false, cond, not, ◌&&◌, ◌||◌, eqb, ltb, ◌⊎◌, List, [], ◌∷◌, length, get_or, Some, None, Option, sym, refl, ap, ◌∙◌, subst, inl, inr, ⊎_elim, arith}
 use Rattle.std.specs.Option.{option_or}
 use Rattle.std.proofs.lemmas.Bool.{and_parts, and_from, and_right, ltb-true, lt-ltb, eqb-true, cond-true, not-true, or_cases, both_ways, true≢false, false≢true, eq-eqb}
-use Rattle.bytes.specs.Runs.{run_end}
-use Rattle.bytes.proofs.RunLaws.{run_end-ge, run_end-all, run_end-is}
+use Rattle.page_bytes.specs.Runs.{run_end}
+use Rattle.page_bytes.proofs.RunLaws.{run_end-ge, run_end-all, run_end-is}
 use Rattle.marks.specs.Places.{is_at, class_at, text_at}
 use Rattle.marks.specs.Shape.{text, one, upto, Shape, AllOf, Spelt, SpeltBy}
 use Rattle.marks.specs.Spelling.{spelt_end, first_end}

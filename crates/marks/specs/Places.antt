@@ -1,6 +1,6 @@
 -- What stands at a place of a page, and around it. Assumes nothing.
 use Rattle.std.specs.Prelude.{ℕ, ◌+◌, ◌-◌, Bool, true, not, ◌&&◌, ◌||◌, List, [], ◌∷◌, length, ◌==◌, nat_eq, nat_lt, slice_index, slice_range}
-use Rattle.bytes.specs.Runs.{run_end}
+use Rattle.page_bytes.specs.Runs.{run_end}
 
 -- the byte b stands at the place
 abbrev pub is_at : List ℕ → ℕ → ℕ → Bool

@@ -1,7 +1,7 @@
 -- Where a stretch of a given shape ends, worked out from its start. Assumes nothing.
 use Rattle.std.specs.Prelude.{ℕ, ◌+◌, cond, List, [], ◌∷◌, length, Some, None, Option}
 use Rattle.std.specs.Option.{option_or}
-use Rattle.bytes.specs.Runs.{run_end}
+use Rattle.page_bytes.specs.Runs.{run_end}
 use Rattle.marks.specs.Places.{text_at, class_at}
 use Rattle.marks.specs.Shape.{text, one, upto, Shape}
 

@@ -5,7 +5,7 @@ ghost use Rattle.marks.specs.Spelling.{spelt_end};
 
 use crate::places::{class_at, is_at, is_escaped};
 use crate::spelling::upto_end;
-use bytes::ByteClass;
+use page_bytes::ByteClass;
 
 // What an attribute's name begins with: letters, digits and `_`.
 struct WordChars;

@@ -9,7 +9,7 @@ ghost use Rattle.marks.specs.Trials.{tried};
 use crate::cursor::Cursor;
 use crate::places::{class_at, is_at};
 use crate::trial::Trial;
-use bytes::{Digits, run_end};
+use page_bytes::{Digits, run_end};
 
 // Passes a number between two texts, if it stands there.
 fn numbered(cursor: &mut Cursor, page: &[u8], before: &[u8], behind: &[u8]) -> bool

@@ -5,7 +5,7 @@ ghost use Rattle.marks.specs.Spelling.{spelt_end};
 ghost use Rattle.marks.specs.Trials.{tried};
 
 use crate::places::{class_at, text_at};
-use bytes::ByteClass;
+use page_bytes::ByteClass;
 
 // The place of the next byte to be looked at. The page is handed to each function beside it.
 #[derive(Clone, Copy)]

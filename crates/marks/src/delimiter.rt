@@ -3,7 +3,7 @@ ghost use Rattle.std.specs.Prelude.{◌≡◌, ◌<◌, ◌≤◌, length, IfSom
 ghost use Rattle.marks.specs.Delimiter.{fence, line_ends, delimits as delimits_line, delimiter_end, length_and_mark};
 
 use crate::places::{at_line_start, is_at};
-use bytes::{OneByte, run_end};
+use page_bytes::{OneByte, run_end};
 
 // Whether so many of a mark, alone on a line, make a delimiter line.
 fn is_fence(mark: u8, count: usize) -> bool

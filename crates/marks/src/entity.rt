@@ -6,7 +6,7 @@ ghost use Rattle.marks.specs.Spelling.{spelt_end, first_end};
 
 use crate::places::{class_at, is_at, is_escaped, text_at};
 use crate::spelling::upto_end;
-use bytes::{Alphanumerics, ByteClass, Digits, HexDigits, Letters};
+use page_bytes::{Alphanumerics, ByteClass, Digits, HexDigits, Letters};
 
 // The end of one byte of the class or more and of a semicolon.
 fn finish_entity<C: ByteClass>(page: &[u8], place: usize, class: &C) -> Option<usize>

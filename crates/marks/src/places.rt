@@ -2,7 +2,7 @@
 ghost use Rattle.std.specs.Prelude.{◌≡◌, ◌-◌, ◌<◌, ◌≤◌, true, length};
 ghost use Rattle.marks.specs.Places.{is_at, text_at, class_at, line_start, escaped};
 
-use bytes::ByteClass;
+use page_bytes::ByteClass;
 
 // Whether the byte `b` stands there.
 pub fn is_at(page: &[u8], place: usize, b: u8) -> bool

@@ -4,7 +4,7 @@ ghost use Rattle.marks.specs.Shape.{upto, text as exactly};
 ghost use Rattle.marks.specs.Spelling.{spelt_end};
 
 use crate::places::text_at;
-use bytes::{ByteClass, run_end};
+use page_bytes::{ByteClass, run_end};
 
 // The end of the run of the class from there on, and of the text behind it.
 pub(crate) fn upto_end<C: ByteClass>(

@@ -4,7 +4,7 @@ ghost use Rattle.marks.specs.Wide.{space_or_quote, punctuation_end, pass_end};
 
 use crate::places::{class_at, text_at};
 use crate::spelling::text_end;
-use bytes::ByteClass;
+use page_bytes::ByteClass;
 
 // The last byte of U+2007, U+2018, U+2019, U+201C, U+201D or U+202F.
 struct SpaceOrQuote;

@@ -2,7 +2,7 @@
 ghost use Rattle.std.specs.Prelude.{◌≡◌};
 ghost use Rattle.recorded.specs.declared.fault.Fault.TheVariants.{Page, NoMemory};
 
-use bytes::Refusal;
+use page_bytes::Refusal;
 use std::alloc::{AllocError, AllocFailed};
 use std::fmt;
 

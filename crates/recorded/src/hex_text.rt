@@ -1,11 +1,11 @@
 // A page in hex text: pieces joined by `+`, each of them hexadecimal digits, and behind them `*` and a count where the bytes are repeated.
 ghost use Rattle.std.specs.Prelude.{◌≡◌, ◌++◌, IfOk, OnOk};
 ghost use Rattle.std.specs.List.{repeat};
-ghost use Rattle.bytes.specs.Refusals.{IsText};
+ghost use Rattle.page_bytes.specs.Refusals.{IsText};
 
 use crate::fault::Fault;
 use crate::hex::decode_hex;
-use bytes::{MAX_TEXT, Refusal, check_text};
+use page_bytes::{MAX_TEXT, Refusal, check_text};
 use std::alloc::Global;
 
 // Some bytes, and how often they stand in the page.

@@ -2,7 +2,7 @@
 use crate::fault::Fault;
 use crate::hex_text::parse_page;
 use crate::name_list::parse_names;
-use bytes::Listed;
+use page_bytes::Listed;
 use source_lexer::SourceLexer;
 use std::alloc::Global;
 use std::io;

@@ -7,8 +7,8 @@ use Rattle.std.proofs.lemmas.List.Sums.{sum_by-append}
 use Rattle.std.proofs.lemmas.Str.{encode_ascii}
 use Rattle.std.proofs.lemmas.Bool.{cases_lt}
 use Rattle.std.proofs.lemmas.Bool.Decides.{nat_tests}
-use Rattle.bytes.specs.Classes.{continuation}
-use Rattle.bytes.proofs.Encoded.{encode-2, encode-3, encode-4}
+use Rattle.page_bytes.specs.Classes.{continuation}
+use Rattle.page_bytes.proofs.Encoded.{encode-2, encode-3, encode-4}
 use Rattle.report.specs.Report.{Characters}
 
 abbrev pub leads : ℕ → Bool

@@ -1,10 +1,10 @@
 -- What the report of a page says. Assumes nothing.
 use Rattle.std.specs.Prelude.{◌≡◌, ℕ, Bool, true, false, List, ◌++◌, length, Some, None, Option}
 use Rattle.std.proofs.Math.Utf8.{scalars, encodes}
-use Rattle.bytes.specs.declared.refusal.Refusal.{Refusal}
-use Rattle.bytes.specs.declared.refusal.Refusal.TheVariants.{AreaTooLong, PastArea, TextTooLong, NotUtf8}
-use Rattle.bytes.specs.Refusals.{number_of, first_ground, area_grounds, text_grounds}
-use Rattle.bytes.specs.Utf8.{FaultIn, place_of}
+use Rattle.page_bytes.specs.declared.refusal.Refusal.{Refusal}
+use Rattle.page_bytes.specs.declared.refusal.Refusal.TheVariants.{AreaTooLong, PastArea, TextTooLong, NotUtf8}
+use Rattle.page_bytes.specs.Refusals.{number_of, first_ground, area_grounds, text_grounds}
+use Rattle.page_bytes.specs.Utf8.{FaultIn, place_of}
 use Rattle.lines.specs.Lines.{line_of, column_of, line_count}
 use Rattle.report.specs.declared.page_report.FaultReport.{FaultReport}
 use Rattle.report.specs.declared.page_report.PageReport.{PageReport}

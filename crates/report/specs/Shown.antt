@@ -1,9 +1,9 @@
 -- The words of a report. Assumes nothing.
 use Rattle.std.specs.Prelude.{ℕ, List, ◌++◌, Some, None, codes, decimal}
-use Rattle.bytes.specs.declared.utf8_fault.Utf8Fault.{Utf8Fault}
-use Rattle.bytes.specs.declared.utf8_fault.Utf8Fault.TheVariants.{Byte, End}
-use Rattle.bytes.specs.Refusals.{number_of, reason_of}
-use Rattle.bytes.specs.Utf8.{place_of}
+use Rattle.page_bytes.specs.declared.utf8_fault.Utf8Fault.{Utf8Fault}
+use Rattle.page_bytes.specs.declared.utf8_fault.Utf8Fault.TheVariants.{Byte, End}
+use Rattle.page_bytes.specs.Refusals.{number_of, reason_of}
+use Rattle.page_bytes.specs.Utf8.{place_of}
 use Rattle.report.specs.declared.page_report.FaultReport.{FaultReport}
 use Rattle.report.specs.declared.page_report.PageReport.{PageReport}
 use Rattle.report.specs.declared.page_report.PageReport.TheVariants.{Accepted, Refused}

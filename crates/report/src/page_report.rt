@@ -1,4 +1,4 @@
-use bytes::{Refusal, Utf8Fault};
+use page_bytes::{Refusal, Utf8Fault};
 
 // A fault of the bytes, with the line and the column at which it stands.
 #[derive(Clone, Copy)]

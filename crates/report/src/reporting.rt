@@ -1,10 +1,10 @@
 ghost use Rattle.std.specs.Prelude.{◌≡◌, is_ok, Some, IsUtf8, Decides};
-ghost use Rattle.bytes.specs.declared.refusal.Refusal.TheVariants.{NotUtf8};
-ghost use Rattle.bytes.specs.Refusals.{refusal_of, first_ground, IsText};
+ghost use Rattle.page_bytes.specs.declared.refusal.Refusal.TheVariants.{NotUtf8};
+ghost use Rattle.page_bytes.specs.Refusals.{refusal_of, first_ground, IsText};
 ghost use Rattle.report.specs.Report.{whole_grounds, accepted, Characters, Reported, FaultReported};
 
 use crate::page_report::{FaultReport, PageReport};
-use bytes::{ContinuationBytes, Not, Refusal, check_area, check_text, check_utf8, count_members};
+use page_bytes::{ContinuationBytes, Not, Refusal, check_area, check_text, check_utf8, count_members};
 use lines::{count_lines, line_and_column};
 
 // How many characters a well-formed page has: its bytes but for the continuation bytes.

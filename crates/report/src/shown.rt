@@ -2,7 +2,7 @@ ghost use Rattle.std.specs.Prelude.{Some};
 ghost use Rattle.report.specs.Shown.{fault_text, report_text};
 
 use crate::page_report::{FaultReport, PageReport};
-use bytes::Utf8Fault;
+use page_bytes::Utf8Fault;
 use std::fmt;
 
 impl fmt::Display for FaultReport {

@@ -1,18 +1,13 @@
-//! sheet PAGE: prints the tokens of a page, or says why the printer may not have it.
-mod options;
+//! sheet PAGE: says whether the printer may have a page.
 mod request;
-mod rows;
 
-use bytes::{Listed, MAX_AREA};
-use listing::list_page;
-use options::Options;
+use page_bytes::MAX_AREA;
 use report::report_page;
-use rows::write_listing;
-use std::io::{Read, Write};
+use request::{Request, requested};
+use std::io::Read;
 use std::{env, fs, io};
 
-const USAGE: &str =
-    "usage: sheet [--names FILE] [--tsv] PAGE   (a file's path, or - for standard input)";
+const USAGE: &str = "usage: sheet PAGE   (a file's path, or - for standard input)";
 
 // One byte more than an area may have: a longer file is refused without being read whole.
 const MOST: u64 = MAX_AREA as u64 + 1;
@@ -29,45 +24,23 @@ fn read_stdin(rt: &HostRuntime) -> io::Result<Vec<u8>> {
     Ok(page)
 }
 
-fn read_named(rt: &HostRuntime, name: &str) -> io::Result<Vec<u8>> {
-    if name == "-" {
-        return read_stdin(rt);
-    }
-    read_file(rt, name)
-}
-
-// The bytes of a file, or nothing once it is told why it cannot be read.
-fn read_or_tell(rt: &HostRuntime, name: &str) -> io::Result<Option<Vec<u8>>> {
-    match read_named(rt, name) {
-        Ok(bytes) => Ok(Some(bytes)),
+// Reports an accepted page on standard output, and on standard error a refused one or why it cannot be read. Whether it was accepted.
+fn print_report(rt: &HostRuntime, name: &str, read: io::Result<Vec<u8>>) -> io::Result<bool> {
+    let page = match read {
+        Ok(page) => page,
         Err(e) => {
             eprintln!(rt; "sheet: {name}: {e}")?;
-            Ok(None)
+            return Ok(false);
         }
-    }
-}
-
-// Prints the tokens of an accepted page, and for a reader its text and the report. Why a page is refused goes to standard error. Whether
-// it was accepted.
-fn print_page(
-    rt: &HostRuntime,
-    name: &str,
-    page: &[u8],
-    names: &[u8],
-    tsv: bool,
-) -> io::Result<bool> {
-    let report = report_page(page);
-    if !report.is_accepted() {
-        eprintln!(rt; "sheet: {name}: {report}")?;
-        return Ok(false);
-    }
-    let listing = list_page(rt.alloc(), page, &Listed(names))?;
-    let rows = write_listing(rt.alloc(), &listing, tsv)?;
-    rt.stdout().write_all(&rows)?;
-    if !tsv {
+    };
+    let report = report_page(&page);
+    let accepted = report.is_accepted();
+    if accepted {
         println!(rt; "{name}: {report}")?;
+    } else {
+        eprintln!(rt; "sheet: {name}: {report}")?;
     }
-    Ok(true)
+    Ok(accepted)
 }
 
 fn print_usage(rt: &HostRuntime) -> io::Result<bool> {
@@ -75,44 +48,29 @@ fn print_usage(rt: &HostRuntime) -> io::Result<bool> {
     Ok(false)
 }
 
-// Reads the page and the names that are asked for, and prints the page. Whether it was done.
-fn answer(rt: &HostRuntime, options: &Options) -> io::Result<bool> {
-    let Some(name) = &options.page else {
-        return print_usage(rt);
-    };
-    let names = match &options.names {
-        None => Some(Vec::new(rt.alloc())),
-        Some(path) => read_or_tell(rt, path.as_str())?,
-    };
-    let Some(names) = names else {
-        return Ok(false);
-    };
-    match read_or_tell(rt, name.as_str())? {
-        Some(page) => print_page(rt, name.as_str(), &page, &names, options.tsv),
-        None => Ok(false),
+// Does what the argument asks for. Whether it was done.
+fn answer(rt: &HostRuntime, argument: &str) -> io::Result<bool> {
+    match requested(argument) {
+        Request::Help => {
+            println!(rt; "{USAGE}")?;
+            Ok(true)
+        }
+        Request::StandardInput => print_report(rt, argument, read_stdin(rt)),
+        Request::File => print_report(rt, argument, read_file(rt, argument)),
+        Request::UnknownOption => {
+            eprintln!(rt; "sheet: there is no option {argument}")?;
+            print_usage(rt)
+        }
     }
 }
 
 fn run(rt: &HostRuntime) -> io::Result<bool> {
     let mut args = env::args(rt)?;
     args.next();
-    let mut options = Options::new();
-    for argument in args {
-        options.take(argument);
+    if let (Some(argument), None) = (args.next(), args.next()) {
+        return answer(rt, argument.as_str());
     }
-    if let Some(argument) = &options.unknown {
-        eprintln!(rt; "sheet: {argument} is not understood")?;
-        return print_usage(rt);
-    }
-    if options.help {
-        println!(rt; "{USAGE}")?;
-        return Ok(true);
-    }
-    if options.names_follow {
-        eprintln!(rt; "sheet: --names wants a file")?;
-        return print_usage(rt);
-    }
-    answer(rt, &options)
+    print_usage(rt)
 }
 
 fn main(rt: HostRuntime) -> io::Result<()> {

@@ -1,14 +1,10 @@
 ghost use Rattle.sheet.specs.Requests.{AsksFor};
 
-// What an argument asks for.
+// What the one argument asks for.
 #[derive(Clone, Copy)]
 pub enum Request {
     // the usage
     Help,
-    // the names of the file that follows
-    Names,
-    // rows for other programs
-    Tsv,
     // the page on standard input
     StandardInput,
     // the page of the file with that path
@@ -22,12 +18,6 @@ pub fn requested(argument: &str) -> Request
 {
     if argument == "--help" {
         return Request::Help;
-    }
-    if argument == "--names" {
-        return Request::Names;
-    }
-    if argument == "--tsv" {
-        return Request::Tsv;
     }
     if argument == "-" {
         return Request::StandardInput;

@@ -2,8 +2,8 @@
 use Rattle.std.proofs.Common.{◌≡◌, ℕ, ◌+◌, ◌-◌, Bool, true, false, cond, ◌&&◌, ◌||◌, eqb, List, [], ◌∷◌, length, get_or, Some, None, Option, refl, ap, ◌∙◌}
 use Rattle.std.specs.Char.{is_ascii_digit}
 use Rattle.std.proofs.lemmas.Bool.{cond-false, and_left, and_right, or_parts, true≢false}
-use Rattle.bytes.specs.Classes.{blank}
-use Rattle.bytes.specs.Runs.{run_end}
+use Rattle.page_bytes.specs.Classes.{blank}
+use Rattle.page_bytes.specs.Runs.{run_end}
 use Rattle.marks.specs.Places.{is_at, text_at, line_start, escaped, mark_run}
 use Rattle.marks.specs.Spelling.{spelt_end, first_end}
 use Rattle.marks.specs.AttrRef.{braced_name, attr_ref_end}

@@ -3,10 +3,10 @@ use Rattle.std.proofs.Common.{◌≡◌, ℕ, zero, suc, ◌+◌, ◌-◌, ◌<�
 use Rattle.std.specs.Char.{is_ascii_digit}
 use Rattle.std.proofs.lemmas.Bool.{and_parts, not-true, cond-true, cond-false, eqb-true, eq-eqb}
 use Rattle.std.proofs.lemmas.Bool.Decides.{nat_tests}
-use Rattle.bytes.specs.Classes.{blank}
-use Rattle.bytes.specs.Runs.{run_end}
-use Rattle.bytes.proofs.Tabled.{same-values}
-use Rattle.bytes.proofs.RunLaws.{run_end-more}
+use Rattle.page_bytes.specs.Classes.{blank}
+use Rattle.page_bytes.specs.Runs.{run_end}
+use Rattle.page_bytes.proofs.Tabled.{same-values}
+use Rattle.page_bytes.proofs.RunLaws.{run_end-more}
 use Rattle.marks.specs.Places.{is_at, line_start, mark_run}
 use Rattle.token.specs.Tokens.{Token, of, first_of}
 use Rattle.marks.specs.AttrRef.{attr_ref_end}

@@ -9,9 +9,9 @@ use Rattle.std.proofs.lemmas.List.{drop_more, get_or-drop, get_or-take}
 use Rattle.std.proofs.lemmas.Bool.{and_parts, and_from, lt-ltb, eq-eqb, or_cases, cond_both, ltb-true, eqb-true, leb-true, cases_lt}
 use Rattle.std.proofs.lemmas.Str.{IsCharBoundary-end, IsCharBoundary-before_ascii, IsCharBoundary-after_ascii, IsCharBoundary-past_char, IsUtf8-drop}
 use Rattle.std.proofs.lemmas.Bool.Decides.{nat_tests}
-use Rattle.bytes.specs.Classes.{blank, word_byte, stem_byte, domain_byte}
-use Rattle.bytes.specs.Runs.{run_end}
-use Rattle.bytes.proofs.RunLaws.{run_end-ge, run_end-le, run_end-gt, run_end-all, run_end-ends}
+use Rattle.page_bytes.specs.Classes.{blank, word_byte, stem_byte, domain_byte}
+use Rattle.page_bytes.specs.Runs.{run_end}
+use Rattle.page_bytes.proofs.RunLaws.{run_end-ge, run_end-le, run_end-gt, run_end-all, run_end-ends}
 use Rattle.marks.specs.Places.{is_at, text_at, class_at, line_start, escaped, mark_run, part}
 use Rattle.marks.specs.Shape.{text, one, upto, Shape}
 use Rattle.marks.specs.Spelling.{spelt_end, first_end}

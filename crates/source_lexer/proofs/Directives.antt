@@ -6,8 +6,8 @@ use Rattle.std.proofs.lemmas.Slice.Eq.{bytes_eq-Decides}
 use Rattle.std.proofs.lemmas.List.Prefix.{at_reads}
 use Rattle.std.proofs.lemmas.List.{drop_more, take_at}
 use Rattle.std.proofs.lemmas.Bool.{and_parts, and_from, or_cases, or_left, or_right, lt-ltb, le-leb, leb-true, eq-eqb, eqb-true, cond-true, false≢true}
-use Rattle.bytes.specs.Classes.{stem_byte}
-use Rattle.bytes.proofs.RunLaws.{run_end-is}
+use Rattle.page_bytes.specs.Classes.{stem_byte}
+use Rattle.page_bytes.proofs.RunLaws.{run_end-is}
 use Rattle.marks.specs.Places.{is_at, text_at, part}
 use Rattle.token.specs.Tokens.{Token}
 use Rattle.words.specs.Word.{stem_end, among, directive_names, directive_follows, directive_token, word_from, word_token}

@@ -5,8 +5,8 @@ use Rattle.std.specs.Str.{bytes_eq}
 use Rattle.std.proofs.lemmas.Slice.Eq.{bytes_eq-Decides}
 use Rattle.std.proofs.lemmas.List.{get_or-drop, get_or-take, drop-drop, drop-take}
 use Rattle.std.proofs.lemmas.Bool.{and_parts, and_from, and_left, or_parts, or_left, cond-true, cond-false, cases_Bool, not-true, not_from_false, true≢false}
-use Rattle.bytes.specs.Classes.{stem_byte}
-use Rattle.bytes.proofs.RunLaws.{run_end-ge, run_end-le, run_end-within}
+use Rattle.page_bytes.specs.Classes.{stem_byte}
+use Rattle.page_bytes.proofs.RunLaws.{run_end-ge, run_end-le, run_end-within}
 use Rattle.marks.specs.Places.{is_at, text_at, line_start, part}
 use Rattle.token.specs.Tokens.{Token, of, first_of}
 use Rattle.source_lexer.specs.Marks.{mark_kind, one_byte, mark_token}

@@ -3,9 +3,9 @@ use Rattle.std.proofs.Common.{◌≡◌, ℕ, ◌+◌, ◌-◌, ◌<◌, ◌≤�
 use Rattle.std.specs.Char.{is_ascii_digit, is_ascii_whitespace}
 use Rattle.std.specs.Str.{bytes_eq}
 use Rattle.std.proofs.lemmas.Bool.{and_parts, or_parts, cond_both, eq-eqb}
-use Rattle.bytes.specs.Classes.{blank, word_byte, stem_byte, domain_byte}
-use Rattle.bytes.specs.Runs.{run_end}
-use Rattle.bytes.proofs.RunLaws.{run_end-ge, run_end-le, run_end-gt}
+use Rattle.page_bytes.specs.Classes.{blank, word_byte, stem_byte, domain_byte}
+use Rattle.page_bytes.specs.Runs.{run_end}
+use Rattle.page_bytes.proofs.RunLaws.{run_end-ge, run_end-le, run_end-gt}
 use Rattle.marks.specs.Places.{is_at, text_at, class_at, line_start, escaped, mark_run, part}
 use Rattle.marks.specs.Shape.{text, one, upto, Shape}
 use Rattle.marks.specs.Spelling.{spelt_end, first_end}

@@ -3,7 +3,7 @@ use Rattle.std.proofs.Common.{◌≡◌, ℕ, ◌-◌, Bool, true, false, not, �
 use Rattle.std.specs.Char.{is_ascii_digit}
 use Rattle.std.proofs.lemmas.Bool.{and_parts, not-true, true≢false}
 use Rattle.std.proofs.lemmas.Bool.Decides.{nat_tests}
-use Rattle.bytes.specs.Classes.{blank}
+use Rattle.page_bytes.specs.Classes.{blank}
 use Rattle.token.specs.Tokens.{Token, of, first_of}
 use Rattle.marks.specs.AttrRef.{braced_name}
 use Rattle.marks.specs.Callout.{callouts}

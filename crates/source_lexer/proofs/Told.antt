@@ -3,9 +3,9 @@ use Rattle.std.proofs.Common.{◌≡◌, ℕ, ◌+◌, ◌<◌, Bool, true, fals
 use Rattle.std.specs.Char.{is_ascii_digit, is_ascii_whitespace}
 use Rattle.std.proofs.lemmas.Bool.{and_parts, eqb-true, cond_both, both_ways, false≢true}
 use Rattle.std.proofs.lemmas.Bool.Decides.{nat_tests}
-use Rattle.bytes.specs.Classes.{blank, word_byte, stem_byte}
-use Rattle.bytes.specs.Runs.{run_end}
-use Rattle.bytes.proofs.RunLaws.{run_end-ge, run_end-le}
+use Rattle.page_bytes.specs.Classes.{blank, word_byte, stem_byte}
+use Rattle.page_bytes.specs.Runs.{run_end}
+use Rattle.page_bytes.proofs.RunLaws.{run_end-ge, run_end-le}
 use Rattle.marks.specs.Places.{is_at, part}
 use Rattle.marks.specs.Shape.{Shape, Spelt, SpeltBy}
 use Rattle.token.specs.Tokens.{Token, of}

@@ -3,8 +3,8 @@
 use Rattle.std.specs.Prelude.{ℕ, ◌+◌, ◌-◌, cond, ◌&&◌, List, [], ◌∷◌, Some, None, Option, ◌==◌, nat_eq, slice_index}
 use Rattle.std.specs.Char.{is_ascii_digit}
 use Rattle.std.specs.Int.{is_in_range}
-use Rattle.bytes.specs.Classes.{blank}
-use Rattle.bytes.specs.Runs.{run_end}
+use Rattle.page_bytes.specs.Classes.{blank}
+use Rattle.page_bytes.specs.Runs.{run_end}
 use Rattle.marks.specs.AttrRef.{attr_ref_end}
 use Rattle.marks.specs.Callout.{callout_end}
 use Rattle.marks.specs.Delimiter.{delimits, delimiter_end}

@@ -1,8 +1,8 @@
 -- Runs of one mark, of blanks and of digits, and the marks of one byte. Assumes nothing.
 use Rattle.std.specs.Prelude.{ℕ, ◌+◌, cond, List, Some, None, Option, ◌==◌, slice_index}
 use Rattle.std.specs.Char.{is_ascii_digit}
-use Rattle.bytes.specs.Classes.{blank}
-use Rattle.bytes.specs.Runs.{run_end}
+use Rattle.page_bytes.specs.Classes.{blank}
+use Rattle.page_bytes.specs.Runs.{run_end}
 use Rattle.marks.specs.Places.{mark_run}
 use Rattle.token.specs.Tokens.{Token}
 use Rattle.token.specs.declared.kind.TokenKind.{TokenKind}

@@ -5,7 +5,7 @@ ghost use Rattle.source_lexer.specs.Lone.{lone, tokens_of, spelled, Within, Fine
 ghost use Rattle.source_lexer.specs.Pages.{PagesRead};
 
 use crate::source_lexer::SourceLexer;
-use bytes::NameSet;
+use page_bytes::NameSet;
 use std::alloc::{AllocError, Global};
 use token::{Place, TokenRecord};
 

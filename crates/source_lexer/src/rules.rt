@@ -1,8 +1,8 @@
 // The rules for a token by its first byte, over a cursor that stands at the token's start. Each passes its token and answers its kind.
 ghost use Rattle.std.specs.Prelude.{◌≡◌, ◌+◌, ◌^◌, ◌<◌, length};
 ghost use Rattle.std.specs.Char.{is_ascii_digit};
-ghost use Rattle.bytes.specs.Classes.{blank};
-ghost use Rattle.bytes.specs.Runs.{run_end};
+ghost use Rattle.page_bytes.specs.Classes.{blank};
+ghost use Rattle.page_bytes.specs.Runs.{run_end};
 ghost use Rattle.marks.specs.AttrRef.{attr_ref_end};
 ghost use Rattle.marks.specs.Callout.{callout_end};
 ghost use Rattle.marks.specs.Delimiter.{delimiter_end};
@@ -12,7 +12,7 @@ ghost use Rattle.token.specs.Tokens.{of};
 ghost use Rattle.token.specs.declared.kind.TokenKind.TheVariants.{Whitespace, Digits as DigitsKind, DelimiterLine, Entity, Ampersand, CalloutNumber, LessThan, AttrRef, OpenBrace, TermDelimiter};
 ghost use Rattle.source_lexer.specs.Chosen.{passed, same_end, line_or_run, or_mark};
 
-use bytes::{Blanks, Digits, OneByte, run_end};
+use page_bytes::{Blanks, Digits, OneByte, run_end};
 use marks::{
     Cursor, at_line_start, attr_ref_end, callout, delimiter_end, delimits, entity_end, term_end,
 };

@@ -1,6 +1,6 @@
 // The ends of a page, and bytes that are no text.
 use crate::reading::check_page;
-use bytes::NoNames;
+use page_bytes::NoNames;
 use source_lexer::{SourceLexer, read_page};
 use std::test::Fail;
 use token::Place;

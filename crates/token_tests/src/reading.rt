@@ -1,5 +1,5 @@
 // A page's tokens in writing, to be compared.
-use bytes::Listed;
+use page_bytes::Listed;
 use source_lexer::read_page;
 use std::alloc::{AllocError, Global};
 use std::process::Abort;

@@ -1,5 +1,5 @@
 // Byte classes, and the runs and counts of their members.
-use bytes::{
+use page_bytes::{
     Alphanumerics, Ascii, Blanks, ByteClass, ContinuationBytes, Digits, DomainBytes, Either,
     HexDigits, Not, OneByte, StemBytes, WordBytes, count_members, run_end,
 };

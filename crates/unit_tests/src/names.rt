@@ -1,5 +1,5 @@
 // Sets of names.
-use bytes::{Family, Joined, Listed, NameSet, NoNames};
+use page_bytes::{Family, Joined, Listed, NameSet, NoNames};
 
 #[test]
 fn a_written_list(rt: HostRuntime) {

@@ -1,5 +1,5 @@
 // Areas and texts at each limit, and one past it.
-use bytes::{Refusal, check_area, check_text, checked_page, text_part};
+use page_bytes::{Refusal, check_area, check_text, checked_page, text_part};
 use std::test::Fail;
 
 // The number of a refusal, 0 where there is none.

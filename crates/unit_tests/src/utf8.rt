@@ -1,6 +1,6 @@
 // The rows of the UTF-8 table of RFC 3629, section 4: each byte of each row at both ends of its range and one past them, and texts cut
 // short.
-use bytes::{Utf8Fault, check_utf8};
+use page_bytes::{Utf8Fault, check_utf8};
 
 #[derive(Clone, Copy)]
 enum Expected {

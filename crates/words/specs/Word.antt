@@ -4,8 +4,8 @@ use Rattle.std.specs.Prelude.{ℕ, ◌+◌, ◌-◌, Bool, false, cond, not, ◌
 use Rattle.std.specs.Option.{option_or}
 use Rattle.std.specs.Char.{is_ascii_whitespace}
 use Rattle.std.specs.Str.{bytes_eq}
-use Rattle.bytes.specs.Classes.{word_byte, stem_byte, domain_byte}
-use Rattle.bytes.specs.Runs.{run_end}
+use Rattle.page_bytes.specs.Classes.{word_byte, stem_byte, domain_byte}
+use Rattle.page_bytes.specs.Runs.{run_end}
 use Rattle.marks.specs.Places.{is_at, text_at, part}
 use Rattle.marks.specs.Term.{opens_term}
 use Rattle.token.specs.Tokens.{Token, of, first_of}

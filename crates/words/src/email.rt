@@ -4,7 +4,7 @@ ghost use Rattle.marks.specs.Trials.{tried};
 ghost use Rattle.words.specs.Word.{email_end};
 
 use crate::names::has_byte;
-use bytes::{DomainBytes, run_end};
+use page_bytes::{DomainBytes, run_end};
 use marks::{Cursor, Trial, is_at};
 
 // Passes the `@` and the domain behind it, if they make an e-mail address of what stands before them.

@@ -4,7 +4,7 @@ ghost use Rattle.std.specs.Str.{bytes_eq};
 ghost use Rattle.marks.specs.Places.{part};
 ghost use Rattle.words.specs.Word.{among, ends_with, has_byte, directive_names, slash_schemes, builtin_macros};
 
-use bytes::NameSet;
+use page_bytes::NameSet;
 
 // Whether the name is this text.
 pub(crate) fn is_text(name: &[u8], text: &[u8]) -> bool

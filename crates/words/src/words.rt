@@ -1,13 +1,13 @@
 // The word at a place.
 ghost use Rattle.std.specs.Prelude.{◌≡◌, ◌<◌, ◌≤◌, cond, length};
-ghost use Rattle.bytes.specs.Classes.{stem_byte, word_byte};
-ghost use Rattle.bytes.specs.Runs.{run_end};
+ghost use Rattle.page_bytes.specs.Classes.{stem_byte, word_byte};
+ghost use Rattle.page_bytes.specs.Runs.{run_end};
 ghost use Rattle.words.specs.Stops.{before_other, by_stop};
 ghost use Rattle.words.specs.Word.{word_or_none};
 
 use crate::colon::before_colon;
 use crate::email::maybe_email;
-use bytes::{NameSet, StemBytes, WordBytes, run_end};
+use page_bytes::{NameSet, StemBytes, WordBytes, run_end};
 use marks::{Cursor, is_at};
 use token::TokenKind;
 

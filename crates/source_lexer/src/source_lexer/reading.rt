@@ -15,7 +15,7 @@ ghost use Rattle.source_lexer.specs.Token.{token_at};
 
 use crate::source_lexer::SourceLexer;
 use crate::token_at::token_at;
-use bytes::NameSet;
+use page_bytes::NameSet;
 use marks::Cursor;
 use token::{Place, TokenRecord};
 

@@ -1,5 +1,0 @@
-use Rattle.bytes.proofs.Listing.{begins-so}
-use Rattle.bytes.proofs.names.begins_with.Goals as goal
-
-pub returns : goal.returns
-returns c = begins-so c.args.beginning.now c.args.name.now c.starts-with.result c.starts-with.ensures.value

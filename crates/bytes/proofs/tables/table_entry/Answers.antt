@@ -1,8 +1,0 @@
-use Rattle.std.proofs.Common.{refl, arith}
-use Rattle.bytes.specs.Classes.{class_bits}
-use Rattle.bytes.proofs.Tabled.{table_at}
-use Rattle.bytes.proofs.tables.table_entry.Goals as goal
-
--- the table is computed at all of its 256 places
-pub returns : goal.returns
-returns c = table_at class_bits 0 _ 256 refl c.args.b (omega arith)

@@ -1,0 +1,67 @@
+// UTF-8 by a machine whose state knows which continuation bytes are due.
+ghost use Rattle.std.specs.Prelude.{◌≡◌, is_ok, IsUtf8, Decides};
+ghost use Rattle.page_bytes.specs.Machine.{next};
+ghost use Rattle.page_bytes.specs.Utf8.{well_formed, Verdict, Scanned};
+
+use crate::class::Ascii;
+use crate::run::run_end;
+use crate::utf8_fault::Utf8Fault;
+use crate::utf8_state::Utf8State;
+
+impl Utf8State {
+    // The state after one byte more.
+    fn after(self, byte: u8) -> Utf8State
+        ensures { result ≡ next self byte }
+    {
+        match (self, byte) {
+            (Utf8State::Start, 0x00..=0x7F) => Utf8State::Start,
+            (Utf8State::Start, 0xC2..=0xDF) => Utf8State::Due1,
+            (Utf8State::Start, 0xE0) => Utf8State::AfterE0,
+            (Utf8State::Start, 0xE1..=0xEC | 0xEE..=0xEF) => Utf8State::Due2,
+            (Utf8State::Start, 0xED) => Utf8State::AfterEd,
+            (Utf8State::Start, 0xF0) => Utf8State::AfterF0,
+            (Utf8State::Start, 0xF1..=0xF3) => Utf8State::Due3,
+            (Utf8State::Start, 0xF4) => Utf8State::AfterF4,
+            (Utf8State::Due1, 0x80..=0xBF) => Utf8State::Start,
+            (Utf8State::Due2, 0x80..=0xBF) => Utf8State::Due1,
+            (Utf8State::Due3, 0x80..=0xBF) => Utf8State::Due2,
+            (Utf8State::AfterE0, 0xA0..=0xBF) => Utf8State::Due1,
+            (Utf8State::AfterEd, 0x80..=0x9F) => Utf8State::Due1,
+            (Utf8State::AfterF0, 0x90..=0xBF) => Utf8State::Due2,
+            (Utf8State::AfterF4, 0x80..=0x8F) => Utf8State::Due2,
+            _ => Utf8State::Fault,
+        }
+    }
+}
+
+// Runs the machine over the bytes, up to the first fault or to its state after all of them.
+fn scan(bytes: &[u8]) -> Result<Utf8State, Utf8Fault>
+    ensures { Scanned bytes.now result }
+{
+    let mut state = Utf8State::Start;
+    let mut place = run_end(bytes, 0, &Ascii);
+    while place < bytes.len() {
+        state = state.after(bytes[place]);
+        if let Utf8State::Fault = state {
+            return Err(Utf8Fault::Byte(place));
+        }
+        place += 1;
+        // where nothing is due, the ASCII bytes ahead leave the machine as it is
+        if let Utf8State::Start = state {
+            place = run_end(bytes, place, &Ascii);
+        }
+    }
+    Ok(state)
+}
+
+// Whether the bytes are well-formed UTF-8, and if not, where the first fault stands.
+pub fn check_utf8(bytes: &[u8]) -> Result<(), Utf8Fault>
+    ensures is { is_ok result ≡ well_formed bytes.now }
+    ensures decides { Decides (is_ok result) (IsUtf8 bytes.now) }
+    ensures fault { Verdict bytes.now result }
+{
+    match scan(bytes)? {
+        Utf8State::Start => Ok(()),
+        _ => Err(Utf8Fault::End(bytes.len())),
+    }
+}
