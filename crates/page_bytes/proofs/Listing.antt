@@ -1,11 +1,10 @@
 -- The lines of a list one by one, and two names byte by byte. Assumes nothing.
-use Rattle.std.proofs.Common.{◌≡◌, ℕ, suc, ◌+◌, ◌-◌, ◌<◌, ◌≤◌, Bool, true, false, cond, not, ◌||◌, eqb, List, [], ◌∷◌, length, get_or, take, drop, Decides, sym, refl, ap, ◌∙◌, add-one, one-add, arith, drop-cons, drop-drop}
+use Rattle.std.proofs.Common.{◌≡◌, ℕ, suc, ◌+◌, ◌-◌, ◌<◌, ◌≤◌, Bool, true, false, cond, not, ◌||◌, eqb, List, [], ◌∷◌, length, get_or, take, drop, sym, refl, ap, ◌∙◌, add-one, one-add, arith, drop-cons, drop-drop}
 use Rattle.std.proofs.lemmas.List.{drop_all}
-use Rattle.std.proofs.lemmas.Bool.Decides.{nat_tests, same_from_decides, Decides-like, Decides-eqb}
-use Rattle.std.specs.Cmp.Lexicographic.{Matches}
+use Rattle.std.proofs.lemmas.Bool.Decides.{nat_tests, same_from_decides, Decides-like}
 use Rattle.std.specs.List.{prefix_len}
 use Rattle.std.specs.Str.{bytes_eq}
-use Rattle.std.proofs.lemmas.Slice.Eq.{slice_eq-Decides, bytes_eq-Decides}
+use Rattle.std.proofs.lemmas.Slice.Eq.{bytes_eq-Decides}
 use Rattle.page_bytes.specs.Runs.{run_end}
 use Rattle.page_bytes.proofs.Cases.{by}
 use Rattle.page_bytes.specs.Names.{lines_of, member, listed}
@@ -84,9 +83,10 @@ pub same_end : (a b : List ℕ) (i : ℕ) → length a ≤ i → length b ≤ i 
 same_end a b i l m = rw (drop_all i a l, drop_all i b m)
 
 -- what `starts_with` answers
-pub begins-so : (beginning name : List ℕ) (r : Bool) → Matches (λ (a b : ℕ) (t : Bool). Decides t (a ≡ b)) beginning (take (length beginning) name) r → r ≡ bytes_eq (take (length beginning) name) beginning
+pub begins-so : (beginning name : List ℕ) (r : Bool) → r ≡ bytes_eq beginning (take (length beginning) name) → r ≡ bytes_eq (take (length beginning) name) beginning
 begins-so beginning name r h =
     let front = take (length beginning) name in
-    same_from_decides r (bytes_eq front beginning)
-    (Decides-like r sym sym (slice_eq-Decides Decides-eqb beginning front r h))
+    let same = bytes_eq beginning front in
+    h ∙ same_from_decides same (bytes_eq front beginning)
+    (Decides-like same sym sym (bytes_eq-Decides beginning front))
     (bytes_eq-Decides front beginning)

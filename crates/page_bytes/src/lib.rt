@@ -1,5 +1,7 @@
 //! The lowest layer of the lexer: which bytes are a text, classes of bytes and their longest runs, and sets of names.
 //! Nothing here allocates.
+#![tactic(auto)]
+
 mod class;
 mod names;
 mod refusal;

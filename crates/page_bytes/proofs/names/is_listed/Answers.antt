@@ -9,31 +9,31 @@ some name e = grind (arith, nat_tests)
 pub names-preserved-then-line-name : goal.names-preserved-then-line-name
 names-preserved-then-line-name c = (
   c.names.invariant.0,
-  passed _ _ _ _ (some _ c.if-is-empty.ensures) c.run-end-end.ensures.is (same-long _ _ c.if-line-name.true) ∙ c.names.invariant.1,
+  passed _ _ _ _ (some _ c.if-is_empty.ensures) c.run_end-end.ensures.is (same-long _ _ c.if-line-name.true) ∙ c.names.invariant.1,
 )
 
 pub names-preserved : goal.names-preserved
 names-preserved c =
-    let line = take (c.run-end-end.result - c.names.start) (drop c.names.start c.args.list.now) in
+    let line = take (c.run_end-end.result - c.names.start) (drop c.names.start c.args.list.now) in
     let l : c.loop-i.i < length line = omega arith in (
       c.names.invariant.0,
-      passed _ _ _ _ (some _ c.if-is-empty.ensures) c.run-end-end.ensures.is (sym c.loop-i.invariant ∙ same-off line _ _ l c.loop-i-test.true c.if-line-i.true) ∙ c.names.invariant.1,
+      passed _ _ _ _ (some _ c.if-is_empty.ensures) c.run_end-end.ensures.is (sym c.loop-i.invariant ∙ same-off line _ _ l c.loop-i-test.true c.if-line-i.true) ∙ c.names.invariant.1,
     )
 
 pub loop-i-preserved : goal.loop-i-preserved
 loop-i-preserved c =
-    let line = take (c.run-end-end.result - c.names.start) (drop c.names.start c.args.list.now) in
+    let line = take (c.run_end-end.result - c.names.start) (drop c.names.start c.args.list.now) in
     let l : c.loop-i.i < length line = omega arith in
     same-on line _ _ l c.loop-i-test.true c.if-line-i.false ∙ c.loop-i.invariant
 
 pub returns-after-names : goal.returns-after-names
 returns-after-names c =
-    let h = some _ c.if-is-empty.ensures in
+    let h = some _ c.if-is_empty.ensures in
     c.names.invariant.0 ∙ knows c.args.list.now c.args.name.now _ h (sym c.names.invariant.1 ∙ none_left _ _ _ h c.names-test.false)
 
 pub returns-after-loop-i : goal.returns-after-loop-i
 returns-after-loop-i c =
-    let h = some _ c.if-is-empty.ensures in
-    let line = take (c.run-end-end.result - c.names.start) (drop c.names.start c.args.list.now) in
+    let h = some _ c.if-is_empty.ensures in
+    let line = take (c.run_end-end.result - c.names.start) (drop c.names.start c.args.list.now) in
     let l : length line ≤ c.loop-i.i = omega arith in
-    knows c.args.list.now c.args.name.now _ h (sym c.names.invariant.1 ∙ hit _ _ _ _ h c.run-end-end.ensures.is (sym c.loop-i.invariant ∙ same_end line _ _ l c.loop-i-test.false))
+    knows c.args.list.now c.args.name.now _ h (sym c.names.invariant.1 ∙ hit _ _ _ _ h c.run_end-end.ensures.is (sym c.loop-i.invariant ∙ same_end line _ _ l c.loop-i-test.false))

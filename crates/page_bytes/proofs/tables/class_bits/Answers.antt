@@ -6,7 +6,7 @@ use Rattle.page_bytes.proofs.tables.class_bits.Goals as goal
 pub returns : goal.returns
 returns c =
     let b = c.args.b in
-    let entry = c.table-entry.ensures in
+    let entry = c.table_entry.ensures in
     record {
       blank = bit_at 1 blank refl b _ (omega arith) entry;
       word = bit_at 2 word_byte refl b _ (omega arith) entry;

@@ -4,19 +4,19 @@ use Rattle.page_bytes.proofs.utf8.scan.Goals as goal
 
 pub loop-place-init : goal.loop-place-init
 loop-place-init c =
-    let run = c.run-end-place.ensures.longest in
+    let run = c.run_end-place.ensures.longest in
     (run.within (omega arith), pass-run c.args.bytes.now 0 _ (omega arith) run refl, start-no-fault)
 
 pub loop-place-preserved : goal.loop-place-preserved
 loop-place-preserved c =
-    (omega arith, after_more _ _ _ _ c.loop-place-test.true c.loop-place.invariant.1 c.after-state.ensures, c.in-default.not-Fault)
+    (omega arith, after_more _ _ _ _ c.loop-place-test.true c.loop-place.invariant.1 c.after-state.ensures, c.in_default.not-Fault)
 
 pub loop-place-preserved-in-Start : goal.loop-place-preserved-in-Start
 loop-place-preserved-in-Start c =
     let bytes = c.args.bytes.now in
-    let run = c.run-end-place-in-Start.ensures.longest in
+    let run = c.run_end-place-in-Start.ensures.longest in
     let here = after_more bytes _ _ _ c.loop-place-test.true c.loop-place.invariant.1 c.after-state.ensures in
-    (run.within (omega arith), c.in-Start.is ∙ pass-run bytes _ _ (omega arith) run (sym c.in-Start.is ∙ here), c.in-default.not-Fault)
+    (run.within (omega arith), c.in-Start.is ∙ pass-run bytes _ _ (omega arith) run (sym c.in-Start.is ∙ here), c.in_default.not-Fault)
 
 pub returns-in-Fault : goal.returns-in-Fault
 returns-in-Fault c =
