@@ -1,4 +1,6 @@
 //! Lines of a page, by its LF bytes: the line and the column of a place, and how many lines there are.
+#![tactic(auto)]
+
 ghost use Rattle.std.specs.Prelude.{◌≡◌};
 ghost use Rattle.lines.specs.Lines.{line_after, column_after, line_of, column_of, line_count};
 

@@ -1,4 +1,6 @@
 //! Whether the printer may have a page: its size, or why not.
+#![tactic(auto)]
+
 mod page_report;
 mod reporting;
 mod shown;

@@ -4,8 +4,10 @@ ghost use Rattle.page_bytes.specs.Refusals.{refusal_of, first_ground, IsText};
 ghost use Rattle.report.specs.Report.{whole_grounds, accepted, Characters, Reported, FaultReported};
 
 use crate::page_report::{FaultReport, PageReport};
-use page_bytes::{ContinuationBytes, Not, Refusal, check_area, check_text, check_utf8, count_members};
 use lines::{count_lines, line_and_column};
+use page_bytes::{
+    ContinuationBytes, Not, Refusal, check_area, check_text, check_utf8, count_members,
+};
 
 // How many characters a well-formed page has: its bytes but for the continuation bytes.
 fn count_characters(page: &[u8]) -> usize

@@ -1,4 +1,6 @@
 //! sheet PAGE: says whether the printer may have a page.
+#![tactic(auto)]
+
 mod request;
 
 use page_bytes::MAX_AREA;

@@ -1,4 +1,6 @@
 //! The tests of the libraries below `sheet`, by subject.
+#![tactic(auto)]
+
 #[cfg(test)]
 mod classes;
 #[cfg(test)]

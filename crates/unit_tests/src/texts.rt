@@ -61,6 +61,6 @@ fn a_part_of_an_area(rt: HostRuntime) -> Result<(), Fail> {
     );
     assert_eq!(rt; number(checked_page(area, 4, 1)), 4);
     let page = text_part(area, 1, 3).ok().ok_or("no part")?;
-    assert!(rt; page == b"b\xC3\xA9", "the part itself");
+    assert!(rt; page == b"b\xC3\xA9".as_slice(), "the part itself");
     Ok(())
 }

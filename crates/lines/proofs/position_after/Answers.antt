@@ -13,8 +13,8 @@ loop-start-preserved c =
     let b = back c.args.front.now c.loop-start.start c.loop-start-test.true c.loop-start.invariant.0 c.if-front-start-ne10.true in
     (omega arith, omega (arith, b, c.loop-start.invariant.1))
 
-pub overflow-add-result : goal.overflow-add-result
-overflow-add-result c = omega (arith, count_by-le-length is_lf c.args.front.now, c.count-members-lf-count.ensures)
+pub overflow_add-result : goal.overflow_add-result
+overflow_add-result c = omega (arith, count_by-le-length is_lf c.args.front.now, c.count_members-lf_count.ensures)
 
 pub returns : goal.returns
 returns c =
@@ -24,6 +24,6 @@ returns c =
       | then-loop-start-test+else-front-start-ne10 w ↦ stop front c.loop-start.start w.loop-start-test.true c.loop-start.invariant.0 w.if-front-start-ne10.false
       | else-loop-start-test w ↦ start front c.loop-start.start w.loop-start-test.false
     ] in
-    let line = ap (λ n. n + 1) c.count-members-lf-count.ensures in
+    let line = ap (λ n. n + 1) c.count_members-lf_count.ensures in
     let column : length front - c.loop-start.start ≡ column_after front = omega (arith, here, c.loop-start.invariant.1) in
     λ k. (line k, column k)
