@@ -1,6 +1,6 @@
 -- Sets of bytes. A byte is a number below 256, and a set says of each whether it is a member.
--- Digits, hexadecimal digits, letters, and letters with digits are the library's `ascii_digit`, `ascii_hex`, `ascii_letter` and
--- `ascii_alnum`.
+-- Digits, hexadecimal digits, letters, and letters with digits are the library's `is_ascii_digit`, `is_ascii_hexdigit`,
+-- `is_ascii_alphabetic` and `is_ascii_alphanumeric`.
 -- Assumes nothing.
 use Rattle.std.specs.Prelude.{ℕ, ◌+◌, Bool, cond, not, ◌&&◌, ◌||◌, ◌==◌, bit_and, nat_lt}
 use Rattle.std.specs.Char.{is_ascii_alphanumeric}

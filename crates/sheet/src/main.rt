@@ -7,6 +7,7 @@ use page_bytes::MAX_AREA;
 use report::report_page;
 use request::{Request, requested};
 use std::io::Read;
+use std::process::ExitCode;
 use std::{env, fs, io};
 
 const USAGE: &str = "usage: sheet PAGE   (a file's path, or - for standard input)";
@@ -75,14 +76,15 @@ fn run(rt: &HostRuntime) -> io::Result<bool> {
     print_usage(rt)
 }
 
-fn main(rt: HostRuntime) -> io::Result<()> {
+fn main(rt: HostRuntime) -> ExitCode {
     match run(&rt) {
-        Ok(true) => Ok(()),
+        Ok(true) => ExitCode::SUCCESS,
         // the reason stands on standard error: this is the status alone
-        Ok(false) => Err(io::Error::from(io::ErrorKind::Other)),
+        Ok(false) => ExitCode::FAILURE,
         Err(e) => {
-            eprintln!(rt; "sheet: {e}")?;
-            Err(e)
+            // where standard error takes nothing either, the status alone tells
+            let _ = eprintln!(rt; "sheet: {e}");
+            ExitCode::FAILURE
         }
     }
 }
