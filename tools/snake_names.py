@@ -12,7 +12,8 @@ import re
 import sys
 
 PART = r"[a-z_][A-Za-z0-9_']*"
-NAME = re.compile(r"\"(?:[^\"\\\n]|\\.)*\"|'(?:[^'\\\n]|\\.)'|(?<![\w'\u00b7-])[A-Za-z_][\w'-]*")
+QUOTED = r"""(?P<quoted>\"(?:[^\"\\\n]|\\.)*\"|(?<!\w)b?'(?:[^'\\\n]|\\x[0-9A-Fa-f]{2}|\\u\{[0-9A-Fa-f_]*\}|\\.)')"""
+NAME = re.compile(QUOTED + r"|(?<![\w'\u00b7-])[A-Za-z_][\w'-]*")
 HUMP = re.compile(r"(?<=[a-z0-9])([A-Z]+)")
 
 
@@ -24,7 +25,7 @@ def part(text):
 
 def respell(match):
     text = match.group()
-    if text[0] in "\"'":
+    if match["quoted"]:
         return text
     return "-".join(part(p) for p in text.split("-"))
 

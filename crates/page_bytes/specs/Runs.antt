@@ -2,7 +2,7 @@
 use Rattle.std.specs.Prelude.{◌≡◌, ℕ, ◌+◌, ◌<◌, ◌≤◌, Bool, true, false, List, length, drop, slice_index}
 use Rattle.std.specs.List.{prefix_len}
 
--- where the longest run from a place ends: `leading` is how many bytes at the front are members
+-- where the longest run from a place ends: `prefix_len` is how many bytes at the front are members
 unfoldable pub run_end : (ℕ → Bool) → List ℕ → ℕ → ℕ
 run_end is page from = from + prefix_len is (drop from page)
 
