@@ -1,4 +1,6 @@
 //! Tokens by kind, place and length, and places by number.
+#![tactic(auto)]
+
 mod kind;
 mod location;
 mod place;
