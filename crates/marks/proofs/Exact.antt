@@ -1,5 +1,5 @@
 -- The relations of the documentation and the ends that are worked out agree: what is told by its spelling. Assumes nothing.
-use Rattle.std.proofs.Common.{◌≡◌, ℕ, ◌-◌, Bool, true, false, cond, List, Some, None, Option, refl, ◌∙◌}
+use Rattle.std.proofs.Common.{◌≡◌, ℕ, Bool, true, false, cond, List, Some, None, Option, refl, ◌∙◌}
 use Rattle.std.proofs.lemmas.Bool.{cond-false}
 use Rattle.marks.specs.Places.{escaped}
 use Rattle.marks.specs.Spelling.{spelt_end, first_end}

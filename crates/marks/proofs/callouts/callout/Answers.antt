@@ -27,8 +27,8 @@ module _ (page : List ℕ) (p : ℕ) (bang : is_at page (p + 1) 33 ≡ true) whe
   comment : option_or (spelt_end (numbered (codes "<!--") (codes "-->")) page p) (spelt_end (text (codes "<!--.-->") ∷ []) page p) ≡ callout_end page p
   comment = last-two _ _ (spelt_end (numbered (codes "<!--") (codes "-->")) page p) (spelt_end (text (codes "<!--.-->") ∷ []) page p) no_number no-dot
 
-pub returns-then-is-at-2 : goal.returns-then-is-at-2
-returns-then-is-at-2 c =
+pub returns-then-is_at-2 : goal.returns-then-is_at-2
+returns-then-is_at-2 c =
     let page = c.args.page.now in
     let p = c.args.cursor.now.pos in
-    c.numbered-or.ensures ∙ ap (λ o. tried o p) (comment page p (sym c.is-at-2.ensures ∙ c.if-is-at-2.true))
+    c.numbered_or.ensures ∙ ap (λ o. tried o p) (comment page p (sym c.is_at-2.ensures ∙ c.if-is_at-2.true))

@@ -6,6 +6,6 @@ use Rattle.marks.proofs.places.text_at.Goals as goal
 pub returns-else-place-page : goal.returns-else-place-page
 returns-else-place-page c =
     record {
-      is = c.is-empty.ensures ∙ sym (text-past c.args.text.now c.args.page.now c.args.place c.if-place-page.false);
-      fits = λ yes₁. omega (arith, eqb-true _ _ (sym c.is-empty.ensures ∙ yes₁));
+      is = c.is_empty.ensures ∙ sym (text-past c.args.text.now c.args.page.now c.args.place c.if-place-page.false);
+      fits = λ yes₁. omega (arith, eqb-true _ _ (sym c.is_empty.ensures ∙ yes₁));
     }
