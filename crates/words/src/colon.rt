@@ -5,8 +5,8 @@ ghost use Rattle.words.specs.Word.{directive_follows, directive_token, scheme_en
 ghost use Rattle.words.specs.Stops.{before_colon};
 
 use crate::names::{has_ending, is_directive_name, is_macro_name, is_slash_scheme, is_text};
-use page_bytes::NameSet;
 use marks::{is_at, peek_term_delimiter, text_at};
+use page_bytes::NameSet;
 use token::TokenKind;
 
 // Whether what follows a directive's name is right for one: two colons and three bytes more at least, or `::[]` at the

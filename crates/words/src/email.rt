@@ -4,8 +4,8 @@ ghost use Rattle.marks.specs.Trials.{tried};
 ghost use Rattle.words.specs.Word.{email_end};
 
 use crate::names::has_byte;
-use page_bytes::{DomainBytes, run_end};
 use marks::{Cursor, Trial, is_at};
+use page_bytes::{DomainBytes, run_end};
 
 // Passes the `@` and the domain behind it, if they make an e-mail address of what stands before them.
 pub(crate) fn maybe_email(cursor: &mut Cursor, page: &[u8]) -> bool

@@ -1,4 +1,6 @@
 //! Words, and what else begins as a word: directives, schemes of addresses, names of macros, what may be an e-mail address.
+#![tactic(auto)]
+
 mod colon;
 mod email;
 mod names;

@@ -7,8 +7,8 @@ ghost use Rattle.words.specs.Word.{word_or_none};
 
 use crate::colon::before_colon;
 use crate::email::maybe_email;
-use page_bytes::{NameSet, StemBytes, WordBytes, run_end};
 use marks::{Cursor, is_at};
+use page_bytes::{NameSet, StemBytes, WordBytes, run_end};
 use token::TokenKind;
 
 // Where the next byte stands that ends a word, and with `with_at` the next one or `@`.

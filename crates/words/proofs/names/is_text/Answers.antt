@@ -3,4 +3,7 @@ use Rattle.std.proofs.lemmas.Bool.Decides.{same_from_decides, Decides-eqb}
 use Rattle.words.proofs.names.is_text.Goals as goal
 
 pub returns : goal.returns
-returns c = same_from_decides _ _ (slice_eq-Decides Decides-eqb _ _ _ c.eq.ensures) (bytes_eq-Decides _ _)
+returns c =
+    let a = c.args.name.now in
+    let b = c.args.text.now in
+    same_from_decides _ _ (slice_eq-Decides Decides-eqb a b _ c.eq.ensures) (bytes_eq-Decides a b)
