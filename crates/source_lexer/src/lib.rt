@@ -1,4 +1,6 @@
 //! The token at a place of a page, and a page's tokens.
+#![tactic(auto)]
+
 mod lone;
 mod rule;
 mod rules;

@@ -39,7 +39,7 @@ pub(crate) fn rule_of(b: u8) -> Rule
     ensures { result ≡ rule_of b }
 {
     match b as char {
-        ' ' | '\t' | '\x0_b' | '\x0_c' => Rule::Blanks,
+        ' ' | '\t' | '\x0B' | '\x0C' => Rule::Blanks,
         '0'..='9' => Rule::Number,
         '\n' => Rule::LineFeed,
         '\r' => Rule::CarriageReturn,
@@ -74,7 +74,7 @@ pub(crate) fn rule_of(b: u8) -> Rule
         ':' => Rule::MaybeTerm(TokenKind::Colon),
         ';' => Rule::MaybeTerm(TokenKind::SemiColon),
         '\u{C2}' | '\u{E2}' | '\u{E3}' | '\u{EF}' => Rule::MaybePunctuation,
-        '\x1_b' => Rule::MaybePass,
+        '\x1B' => Rule::MaybePass,
         _ => Rule::OnlyWord,
     }
 }

@@ -12,10 +12,10 @@ ghost use Rattle.token.specs.Tokens.{of};
 ghost use Rattle.token.specs.declared.kind.TokenKind.TheVariants.{Whitespace, Digits as DigitsKind, DelimiterLine, Entity, Ampersand, CalloutNumber, LessThan, AttrRef, OpenBrace, TermDelimiter};
 ghost use Rattle.source_lexer.specs.Chosen.{passed, same_end, line_or_run, or_mark};
 
-use page_bytes::{Blanks, Digits, OneByte, run_end};
 use marks::{
     Cursor, at_line_start, attr_ref_end, callout, delimiter_end, delimits, entity_end, term_end,
 };
+use page_bytes::{Blanks, Digits, OneByte, run_end};
 use token::TokenKind;
 
 // A token up to a place.

@@ -9,8 +9,8 @@ use crate::rules::{
     codepoint, digits, line_or_repeating, line_or_single, maybe_attr_ref, maybe_callout_number,
     maybe_entity, maybe_term_delimiter, repeating, single, whitespace,
 };
-use page_bytes::NameSet;
 use marks::{Cursor, newline_end, pass_end, punctuation_end};
+use page_bytes::NameSet;
 use token::TokenKind;
 use words::word;
 

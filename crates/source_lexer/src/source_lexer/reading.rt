@@ -15,8 +15,8 @@ ghost use Rattle.source_lexer.specs.Token.{token_at};
 
 use crate::source_lexer::SourceLexer;
 use crate::token_at::token_at;
-use page_bytes::NameSet;
 use marks::Cursor;
+use page_bytes::NameSet;
 use token::{Place, TokenRecord};
 
 // The most bytes that a page may have to be read: a place is a number of 32 bits.

@@ -9,8 +9,8 @@ loop-token-preserved g c =
     let page = c.args.page.now in
     let known = g.N.NameSet.knows c.args.names.now in
     let items = vec_items c.loop-token.tokens in
-    let q = pos_of c.next-token.new.self in
-    ap (λ ts. ts ++ left known page q) c.in-ok-push.ensures.items
+    let q = pos_of c.next_token.new.self in
+    ap (λ ts. ts ++ left known page q) c.in_ok-push.ensures.items
     ∙ append_assoc items (c.in-Some.token ∷ []) (left known page q)
     ∙ ap (λ ts. items ++ ts) (sym (given-left known page (pos_of c.loop-token.reader) q c.in-Some.token c.in-Some.ensures.token c.in-Some.ensures.pos))
     ∙ c.loop-token.invariant
@@ -20,4 +20,4 @@ returns g c =
     let page = c.args.page.now in
     let known = g.N.NameSet.knows c.args.names.now in
     let items = vec_items c.loop-token.tokens in
-    sym (append-nil items) ∙ ap (λ ts. items ++ ts) (sym (ended-left known page (pos_of c.loop-token.reader) c.in-default.ensures.token)) ∙ c.loop-token.invariant
+    sym (append-nil items) ∙ ap (λ ts. items ++ ts) (sym (ended-left known page (pos_of c.loop-token.reader) c.in_default.ensures.token)) ∙ c.loop-token.invariant

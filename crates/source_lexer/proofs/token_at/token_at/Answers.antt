@@ -16,10 +16,10 @@ returns-in-Some g c =
     let page = c.args.page.now in
     let p = c.args.cursor.now.pos in
     let known = g.N.NameSet.knows c.args.names.now in
-    let byte : get_or page p 0 < 256 = omega (arith, c.type-inv.page p) in
+    let byte : get_or page p 0 < 256 = omega (arith, c.type_inv.page p) in
     let same =
     ap (λ (o : Option Token). first_of (o ∷ []) (word_token known page p)) c.in-Some.ensures.is
-    ∙ token-by-rule known page p _ c.requires c.rule-of-rule.ensures byte in
+    ∙ token-by-rule known page p _ c.requires c.rule_of-rule.ensures byte in
     let on = inside known page p _ c.requires same in
     record { is = same; onward = on.0; within = on.1 }
 
@@ -28,11 +28,11 @@ returns-in-None g c =
     let page = c.args.page.now in
     let p = c.args.cursor.now.pos in
     let known = g.N.NameSet.knows c.args.names.now in
-    let byte : get_or page p 0 < 256 = omega (arith, c.type-inv.page p) in
+    let byte : get_or page p 0 < 256 = omega (arith, c.type_inv.page p) in
     let same =
     c.word.ensures ∙ ap (word_or_none known page) (c.in-None.ensures.stays refl)
     ∙ cond-true (ltb p (length page)) (word_token known page p) _ (lt-ltb p (length page) c.requires)
     ∙ ap (λ (o : Option Token). first_of (o ∷ []) (word_token known page p)) c.in-None.ensures.is
-    ∙ token-by-rule known page p _ c.requires c.rule-of-rule.ensures byte in
+    ∙ token-by-rule known page p _ c.requires c.rule_of-rule.ensures byte in
     let on = inside known page p _ c.requires same in
     record { is = same; onward = on.0; within = on.1 }
