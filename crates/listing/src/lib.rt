@@ -1,4 +1,6 @@
 //! A page's tokens with their lines and columns, and the text that they make.
+#![tactic(auto)]
+
 mod escaping;
 mod listed;
 mod making;

@@ -11,7 +11,7 @@ loop-b-preserved c =
     let b = get_or bytes i 0 in
     let front = vec_items c.args.out.now in
     let on : i < length bytes = omega arith in
-    c.in-ok-escape-byte.ensures ∙ ap (λ xs. xs ++ escaped_byte b) c.loop-b.invariant ∙ flat_map_more escaped_byte front (take i bytes) b ∙ ap (λ xs. front ++ flat_map escaped_byte xs) (sym (take_more bytes i 0 on))
+    c.in_ok-escape_byte.ensures ∙ ap (λ xs. xs ++ escaped_byte b) c.loop-b.invariant ∙ flat_map_more escaped_byte front (take i bytes) b ∙ ap (λ xs. front ++ flat_map escaped_byte xs) (sym (take_more bytes i 0 on))
 
 pub returns : goal.returns
 returns c =

@@ -3,4 +3,4 @@ use Rattle.lines.specs.Lines.{line_of, column_of}
 use Rattle.listing.proofs.making.position_at.Given as goal
 
 abbrev pub invariant-loop-i : goal.invariant-loop-i
-invariant-loop-i l = (l.at-line ≡ line_of l.page l.i) × (l.at-column ≡ column_of l.page l.i)
+invariant-loop-i l = (l.at_line ≡ line_of l.page l.i) × (l.at_column ≡ column_of l.page l.i)
