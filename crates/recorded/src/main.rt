@@ -1,4 +1,6 @@
 //! recorded [lone]: answers recorded cases of the lexer, one line for each line of standard input.
+#![tactic(auto)]
+
 mod answer;
 mod fault;
 mod hex;

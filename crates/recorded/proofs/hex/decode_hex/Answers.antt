@@ -11,6 +11,6 @@ pub loop-i-preserved : goal.loop-i-preserved
 loop-i-preserved c = (
   search rules,
   upto-more (SpeltAt c.args.digits.now (vec_items c.push.new.self)) c.loop-i.i
-      (λ k h. c.loop-i.invariant.1 k h ∙ ap Some (sym (c.in-ok-push.ensures.by_index.0 k 0 (omega (arith, h, c.loop-i.invariant.0)))))
+      (λ k h. c.loop-i.invariant.1 k h ∙ ap Some (sym (c.in_ok-push-in-Some.ensures.by_index.0 k 0 (omega (arith, h, c.loop-i.invariant.0)))))
       (search rules),
 )

@@ -19,4 +19,4 @@ returns-then-len-eq0 c =
 
 pub loop-preserved : goal.loop-preserved
 loop-preserved c =
-    once_more (vec_items c.args.page.now) (vec_items c.args.piece.now.bytes) c.loop.counter c.loop.invariant c.deref.ensures.value c.in-ok-extend-from-slice.ensures.items
+    once_more (vec_items c.args.page.now) (vec_items c.args.piece.now.bytes) c.loop.counter c.loop.invariant c.deref.ensures.value c.in_ok-extend_from_slice.ensures.items
