@@ -7,7 +7,8 @@ use token::Place;
 
 #[test]
 fn an_empty_page_has_no_token(rt: HostRuntime) -> Result<(), Fail> {
-    check_page(&rt, rt.alloc(), b"", b"", "")
+    assert!(rt; check_page(rt.alloc(), b"", b"", "")?);
+    Ok(())
 }
 
 #[test]
@@ -54,26 +55,36 @@ fn a_reader_at_the_last_place_stays(rt: HostRuntime) {
 #[test]
 fn a_part_of_an_area_is_a_page_of_its_own(rt: HostRuntime) -> Result<(), Fail> {
     let area = b"a----\n----";
-    check_page(
-        &rt,
-        rt.alloc(),
-        &area[1..6],
-        b"",
-        "DelimiterLine:0:4 Newline:4:5",
-    )?;
-    check_page(&rt, rt.alloc(), &area[0..5], b"", "Word:0:1 Dashes:1:5")?;
-    check_page(&rt, rt.alloc(), &area[6..9], b"", "Dashes:0:3")
+    assert!(rt;
+        check_page(
+            rt.alloc(),
+            &area[1..6],
+            b"",
+            "DelimiterLine:0:4 Newline:4:5"
+        )?
+    );
+    assert!(rt; check_page(rt.alloc(), &area[0..5], b"", "Word:0:1 Dashes:1:5")?);
+    assert!(rt; check_page(rt.alloc(), &area[6..9], b"", "Dashes:0:3")?);
+    Ok(())
 }
 
 #[test]
 fn bytes_that_are_no_text_have_tokens_too(rt: HostRuntime) -> Result<(), Fail> {
-    check_page(&rt, rt.alloc(), b"\xE2\x80", b"", "Word:0:2").note("a mark cut short")?;
-    check_page(&rt, rt.alloc(), b"\xC2", b"", "Word:0:1").note("a first byte alone")?;
-    check_page(
-        &rt,
-        rt.alloc(),
-        b"\x99-\xFF",
-        b"",
-        "Word:0:1 Dashes:1:2 Word:2:3",
-    )
+    assert!(rt;
+        check_page(rt.alloc(), b"\xE2\x80", b"", "Word:0:2")?,
+        "a mark cut short"
+    );
+    assert!(rt;
+        check_page(rt.alloc(), b"\xC2", b"", "Word:0:1")?,
+        "a first byte alone"
+    );
+    assert!(rt;
+        check_page(
+            rt.alloc(),
+            b"\x99-\xFF",
+            b"",
+            "Word:0:1 Dashes:1:2 Word:2:3"
+        )?
+    );
+    Ok(())
 }

@@ -2,8 +2,6 @@
 use page_bytes::Listed;
 use source_lexer::read_page;
 use std::alloc::{AllocError, Global};
-use std::process::Abort;
-use std::test::Fail;
 
 // Kind, start and end of each token, separated by blanks.
 pub fn written(heap: Global, page: &[u8], names: &[u8]) -> Result<String, AllocError> {
@@ -24,13 +22,11 @@ pub fn written(heap: Global, page: &[u8], names: &[u8]) -> Result<String, AllocE
 
 // Whether a page has these tokens, with these plug-in names.
 pub fn check_page(
-    rt: &impl Abort,
     heap: Global,
     page: &[u8],
     names: &[u8],
     expected: &str,
-) -> Result<(), Fail> {
+) -> Result<bool, AllocError> {
     let text = written(heap, page, names)?;
-    assert_eq!(rt; text.as_str(), expected);
-    Ok(())
+    Ok(text.as_str() == expected)
 }
