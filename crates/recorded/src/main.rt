@@ -10,6 +10,7 @@ mod name_list;
 
 use answer::{Cases, answer_line};
 use std::io::{BufRead, BufReader, BufWriter, Write};
+use std::process::ExitCode;
 use std::{env, io};
 
 const USAGE: &str = "usage: recorded [lone]   (cases on standard input, a line each)";
@@ -50,14 +51,15 @@ fn run(rt: &HostRuntime) -> io::Result<bool> {
     }
 }
 
-fn main(rt: HostRuntime) -> io::Result<()> {
+fn main(rt: HostRuntime) -> ExitCode {
     match run(&rt) {
-        Ok(true) => Ok(()),
+        Ok(true) => ExitCode::SUCCESS,
         // the usage stands on standard error: this is the status alone
-        Ok(false) => Err(io::Error::from(io::ErrorKind::Other)),
+        Ok(false) => ExitCode::FAILURE,
         Err(e) => {
-            eprintln!(rt; "recorded: {e}")?;
-            Err(e)
+            // where standard error takes nothing either, the status alone tells
+            let _ = eprintln!(rt; "recorded: {e}");
+            ExitCode::FAILURE
         }
     }
 }
