@@ -1,4 +1,4 @@
--- Well-formed UTF-8, and where bytes cease to be it. `Utf8 bs` is the library's: bs encodes a list of scalar values.
+-- Well-formed UTF-8, and where bytes cease to be it. `IsUtf8 bs` is the library's: bs encodes a list of scalar values.
 -- Assumes nothing.
 use Rattle.std.specs.Prelude.{◌≡◌, ℕ, ◌+◌, ◌<◌, Bool, true, false, List, ◌++◌, length, take, Ok, Err, IsUtf8, Result, ◌≢◌}
 use Rattle.page_bytes.specs.declared.utf8_state.Utf8State.{Utf8State}
@@ -7,7 +7,7 @@ use Rattle.page_bytes.specs.declared.utf8_fault.Utf8Fault.{Utf8Fault}
 use Rattle.page_bytes.specs.declared.utf8_fault.Utf8Fault.TheVariants.{Byte, End}
 use Rattle.page_bytes.specs.Machine.{after, accepts}
 
--- the test that decides `Utf8`
+-- the test that decides `IsUtf8`
 unfoldable pub well_formed : List ℕ → Bool
 well_formed bs = accepts Start bs
 

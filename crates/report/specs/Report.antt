@@ -1,6 +1,6 @@
 -- What the report of a page says. Assumes nothing.
-use Rattle.std.specs.Prelude.{◌≡◌, ℕ, Bool, true, false, List, ◌++◌, length, Some, None, Option}
-use Rattle.std.proofs.Math.Utf8.{scalars, encodes}
+use Rattle.std.specs.Prelude.{◌≡◌, ℕ, Bool, true, false, List, ◌++◌, length, Some, None, encode_utf8_all, Option}
+use Rattle.std.specs.Str.{all_scalars}
 use Rattle.page_bytes.specs.declared.refusal.Refusal.{Refusal}
 use Rattle.page_bytes.specs.declared.refusal.Refusal.TheVariants.{AreaTooLong, PastArea, TextTooLong, NotUtf8}
 use Rattle.page_bytes.specs.Refusals.{number_of, first_ground, area_grounds, text_grounds}
@@ -16,7 +16,7 @@ whole_grounds page = area_grounds page ++ text_grounds page
 
 -- the page is the encoding of so many scalar values
 abbrev pub Characters : List ℕ → ℕ → Type 0
-Characters page n = (cs : List ℕ) × (scalars cs ≡ true) × (encodes cs ≡ page) × (n ≡ length cs)
+Characters page n = (cs : List ℕ) × (all_scalars cs ≡ true) × (encode_utf8_all cs ≡ page) × (n ≡ length cs)
 
 -- a fault is reported exactly where the refusal is `NotUtf8`, with the line and the column of its place
 abbrev pub FaultReported : List ℕ → Refusal → Option FaultReport → Type 0

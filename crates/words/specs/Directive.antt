@@ -15,5 +15,5 @@ pub record DirectiveAt (page : List ℕ) (p e : ℕ) : Type 0 where
   pub colons : text_at (codes "::") page (p + length name) ≡ true
   pub ends : e ≡ p + length name + 2
   pub enough : Enough page name e
-  -- no blank and no line end stands behind the colons
+  -- no space, tab, LF, FF or CR stands behind the colons
   pub tight : is_ascii_whitespace (slice_index page e) ≡ false

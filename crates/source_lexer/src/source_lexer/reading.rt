@@ -64,12 +64,12 @@ impl SourceLexer {
         ensures pos { pos_of self.new ≡ pos_after (N.NameSet.knows names.now) page.now (pos_of self.old) }
         // it has a byte at least, and ends within the page
         ensures bytes { IfSome result (InPage page.now (pos_of self.old) (pos_of self.new)) }
-        // it cuts no character
+        // from a character's boundary on, it cuts no character
         ensures whole { IsUtf8 page.now → IsCharBoundary page.now (pos_of self.old) → IsCharBoundary page.now (pos_of self.new) }
         // fewer names have the same token, or two in the place of a name that they lack
         ensures names { (poor : List ℕ → Bool) → Within poor (N.NameSet.knows names.now) → pos_of self.old < length page.now → (token_at poor page.now (pos_of self.old) ≡ token_at (N.NameSet.knows names.now) page.now (pos_of self.old)) ⊎ NewName poor (N.NameSet.knows names.now) page.now (pos_of self.old) }
-        // delimiter lines, character references, callouts, attribute references and directives stand exactly where the documentation has
-        // them
+        // delimiter lines, character references, callouts, attribute references and directives stand exactly where the page has such
+        // a stretch by a second definition, after the words of the documentation
         ensures lines { length page.now ≤ most → Exactly DelimiterLine (DelimiterAt page.now (pos_of self.old)) (pos_of self.old) result }
         ensures entities { length page.now ≤ most → Exactly Entity (EntityAt page.now (pos_of self.old)) (pos_of self.old) result }
         ensures callouts { length page.now ≤ most → Exactly CalloutNumber (CalloutAt page.now (pos_of self.old)) (pos_of self.old) result }
