@@ -1,49 +1,62 @@
 -- The machine byte by byte: what it passes, what its states say of the bytes so far, and what a fault means. Assumes nothing.
-use Rattle.std.proofs.Common.{◌≡◌, ℕ, zero, suc, ◌+◌, ◌-◌, ◌<◌, ◌≤◌, true, false, List, [], ◌∷◌, ◌++◌, length, get_or, take, drop, Ok, IsUtf8, sym, refl, ap, ◌∙◌, subst, arith, take-append-drop}
-use Rattle.std.proofs.lemmas.List.{take_all}
-use Rattle.std.proofs.lemmas.List.Sums.{fold_more}
+use Rattle.std.proofs.Common.{Some, None, Option, ◌≡◌, ℕ, suc, ◌+◌, ◌-◌, ◌<◌, ◌≤◌, true, false, List, [], ◌∷◌, ◌++◌, length, get_or, take, drop, Ok, IsUtf8, sym, refl, ap, ◌∙◌, arith, take-append-drop, append_assoc, length-drop}
 use Rattle.std.proofs.lemmas.Bool.{false≢true}
 use Rattle.std.proofs.lemmas.Bool.Decides.{nat_tests, not_from_Decides}
+use Rattle.std.proofs.lemmas.Grind.{common_steps}
+use Rattle.std.proofs.lemmas.List.{take_all}
+use Rattle.std.specs.List.{slice_range}
 use Rattle.page_bytes.specs.declared.utf8_state.Utf8State.{Utf8State}
-use Rattle.page_bytes.specs.declared.utf8_state.Utf8State.TheVariants.{Start, Due1, Due2, Due3, AfterE0, AfterEd, AfterF0, AfterF4, Fault}
+use Rattle.page_bytes.specs.declared.utf8_state.Utf8State.TheVariants.{Start, Due1, Due2, Due3, AfterE0, AfterEd, AfterF0, AfterF4}
 use Rattle.page_bytes.specs.Classes.{ascii}
 use Rattle.page_bytes.specs.Machine.{next, after, accepts, at_start}
 use Rattle.page_bytes.specs.Runs.{LongestRun}
 use Rattle.page_bytes.specs.declared.utf8_fault.Utf8Fault.TheVariants.{Byte}
-use Rattle.page_bytes.specs.Utf8.{well_formed, Completable, Faulty, Scanned}
+use Rattle.page_bytes.specs.Utf8.{well_formed, Completable, Faulty, Skips, Scanned}
 use Rattle.page_bytes.proofs.Language.{decides, decided}
 
-after-append : (s : Utf8State) (xs ys : List ℕ) → after s (xs ++ ys) ≡ after (after s xs) ys
+after-append : (s : Option Utf8State) (xs ys : List ℕ) → after s (xs ++ ys) ≡ after (after s xs) ys
 after-append s [] ys = refl
 after-append s (x ∷ xs) ys = after-append (next s x) xs ys
 
-after-fault : (bs : List ℕ) → after Fault bs ≡ Fault
+after-fault : (bs : List ℕ) → after None bs ≡ None
 after-fault [] = refl
 after-fault (b ∷ bs) = after-fault bs
 
--- one byte more
-pub after_more : (bs : List ℕ) (i : ℕ) (s t : Utf8State) → i < length bs → s ≡ after Start (take i bs) → t ≡ next s (get_or bs i 0) → t ≡ after Start (take (i + 1) bs)
-after_more bs i s t h e f = f ∙ ap (λ x. next x (get_or bs i 0)) e ∙ sym (fold_more next Start bs i 0 h)
-
-next-ascii : (b : ℕ) → ascii b ≡ true → Start ≡ next Start b
-next-ascii b e = grind (arith, nat_tests)
-
 -- ASCII bytes, where nothing is due
-pass : (bs : List ℕ) (n i : ℕ) → i + n ≤ length bs → ((k : ℕ) → i ≤ k → k < i + n → ascii (get_or bs k 0) ≡ true) → Start ≡ after Start (take i bs) → Start ≡ after Start (take (i + n) bs)
-pass bs zero i h a e = let z : i ≡ i + 0 = omega arith in subst (λ m. Start ≡ after Start (take m bs)) z e
-pass bs (suc n) i h a e =
-    let z : i + 1 + n ≡ i + suc n = omega arith in
-    let here = next-ascii (get_or bs i 0) (a i (omega arith) (omega arith)) in
-    subst (λ m. Start ≡ after Start (take m bs)) z
-    (pass bs n (i + 1) (omega arith) (λ k l u. a k (omega arith) (omega arith)) (after_more bs i Start Start (omega arith) e here))
+ascii-run : (bs : List ℕ) → ((k : ℕ) → k < length bs → ascii (get_or bs k 0) ≡ true) → after (Some Start) bs ≡ Some Start
+ascii-run [] all = refl
+ascii-run (b ∷ bs) all =
+    let here : next (Some Start) b ≡ Some Start = let q = all 0 (omega arith) in grind (arith, nat_tests) in
+    ap (λ s. after s bs) here ∙ ascii-run bs (λ k h. all (suc k) (omega arith))
 
--- a run of ASCII from a place where nothing is due
-pub pass-run : (bs : List ℕ) (i j : ℕ) → i ≤ length bs → LongestRun ascii bs i j → Start ≡ after Start (take i bs) → Start ≡ after Start (take j bs)
-pass-run bs i j h run e =
-    let l : i ≤ j = run.onward in
-    let z : i + (j - i) ≡ j = omega arith in
-    subst (λ m. Start ≡ after Start (take m bs)) z
-    (pass bs (j - i) i (omega (arith, run.within h)) (λ k a b. run.members k a (omega arith)) e)
+-- the longest run of them at the front
+pub skips : (bs : List ℕ) (n : ℕ) (s : Utf8State) → s ≡ Start → LongestRun ascii bs 0 n → Skips s bs (slice_range bs n (length bs))
+skips bs n s e run =
+    let h : n ≤ length bs = run.within (omega arith) in
+    let rest : slice_range bs n (length bs) ≡ drop n bs = take_all (length bs - n) (drop n bs) (omega (arith, length-drop n bs)) in
+    rw (e, rest) (take n bs, sym (take-append-drop n bs), ascii-run (take n bs) (λ k l. grind (arith, common_steps, run.members k)))
+
+-- the machine has read the front of the bytes, and this is left
+pub record Reads (bs rest : List ℕ) (s : Utf8State) : Type 0 where
+  pub front : List ℕ
+  pub whole : bs ≡ front ++ rest
+  pub state : Some s ≡ after (Some Start) front
+
+-- bytes that leave the machine in its state
+pub on : (bs rest rest' : List ℕ) (s : Utf8State) → Reads bs rest s → Skips s rest rest' → Reads bs rest' s
+on bs rest rest' s r (skipped, w, k) = record {
+  front = r.front ++ skipped;
+  whole = r.whole ∙ ap (λ xs. r.front ++ xs) w ∙ sym (append_assoc r.front skipped rest');
+  state = sym (after-append (Some Start) r.front skipped ∙ ap (λ t. after t skipped) (sym r.state) ∙ k);
+}
+
+-- one byte more
+pub more : (bs rest rest' : List ℕ) (s t : Utf8State) (b : ℕ) → Reads bs rest s → rest ≡ b ∷ rest' → Some t ≡ next (Some s) b → Reads bs rest' t
+more bs rest rest' s t b r w k = record {
+  front = r.front ++ b ∷ [];
+  whole = r.whole ∙ ap (λ xs. r.front ++ xs) w ∙ sym (append_assoc r.front (b ∷ []) rest');
+  state = k ∙ ap (λ x. next x b) r.state ∙ sym (after-append (Some Start) r.front (b ∷ []));
+}
 
 -- bytes that complete a text from a state
 abbrev completion : Utf8State → List ℕ
@@ -55,41 +68,33 @@ completion AfterE0 = 160 ∷ 128 ∷ []
 completion AfterEd = 128 ∷ 128 ∷ []
 completion AfterF0 = 144 ∷ 128 ∷ 128 ∷ []
 completion AfterF4 = 128 ∷ 128 ∷ 128 ∷ []
-completion Fault = []
 
-completes : (s : Utf8State) → (s ≡ Fault → ⊥) → accepts s (completion s) ≡ true
-completes Start h = refl
-completes Due1 h = refl
-completes Due2 h = refl
-completes Due3 h = refl
-completes AfterE0 h = refl
-completes AfterEd h = refl
-completes AfterF0 h = refl
-completes AfterF4 h = refl
-completes Fault h = absurd (h refl)
+completes : (s : Utf8State) → accepts (Some s) (completion s) ≡ true
+completes Start = refl
+completes Due1 = refl
+completes Due2 = refl
+completes Due3 = refl
+completes AfterE0 = refl
+completes AfterEd = refl
+completes AfterF0 = refl
+completes AfterF4 = refl
 
 -- where there is no fault, the bytes so far can be completed
-completable : (s : Utf8State) (bs : List ℕ) → s ≡ after Start bs → (s ≡ Fault → ⊥) → Completable bs
-completable s bs e no-fault =
-    (completion s, (decides (bs ++ completion s)).0 (ap at_start (after-append Start bs (completion s) ∙ ap (λ t. after t (completion s)) (sym e)) ∙ completes s no-fault))
+completable : (s : Utf8State) (bs : List ℕ) → Some s ≡ after (Some Start) bs → Completable bs
+completable s bs e =
+    (completion s, (decides (bs ++ completion s)).0 (ap at_start (after-append (Some Start) bs (completion s) ∙ ap (λ t. after t (completion s)) (sym e)) ∙ completes s))
 
 -- where there is one, they cannot
-not-completable : (bs : List ℕ) → Fault ≡ after Start bs → Completable bs → ⊥
+not-completable : (bs : List ℕ) → None ≡ after (Some Start) bs → Completable bs → ⊥
 not-completable bs e (rest, u) =
-    false≢true (sym (ap at_start (after-append Start bs rest ∙ ap (λ t. after t rest) (sym e) ∙ after-fault rest)) ∙ (decides (bs ++ rest)).1 u)
+    false≢true (sym (ap at_start (after-append (Some Start) bs rest ∙ ap (λ t. after t rest) (sym e) ∙ after-fault rest)) ∙ (decides (bs ++ rest)).1 u)
 
 -- a fault on the way is a fault of the whole text
-rejected : (bs : List ℕ) (i : ℕ) → Fault ≡ after Start (take i bs) → false ≡ accepts Start bs
-rejected bs i e =
-    sym (ap (accepts Start) (sym (take-append-drop i bs))
-    ∙ ap at_start (after-append Start (take i bs) (drop i bs) ∙ ap (λ t. after t (drop i bs)) (sym e) ∙ after-fault (drop i bs)))
-
--- the state at the text's end
-pub at-end : (bs : List ℕ) (i : ℕ) (s : Utf8State) → length bs ≤ i → s ≡ after Start (take i bs) → s ≡ after Start bs
-at-end bs i s h e = e ∙ ap (after Start) (take_all i bs h)
+rejected : (front rest : List ℕ) → None ≡ after (Some Start) front → false ≡ accepts (Some Start) (front ++ rest)
+rejected front rest e = sym (ap at_start (after-append (Some Start) front rest ∙ ap (λ t. after t rest) (sym e) ∙ after-fault rest))
 
 -- only where nothing is due does a text end
-not_start : (s : Utf8State) → (s ≡ Start → ⊥) → false ≡ at_start s
+not_start : (s : Utf8State) → (s ≡ Start → ⊥) → false ≡ at_start (Some s)
 not_start Start h = absurd (h refl)
 not_start Due1 h = refl
 not_start Due2 h = refl
@@ -98,30 +103,34 @@ not_start AfterE0 h = refl
 not_start AfterEd h = refl
 not_start AfterF0 h = refl
 not_start AfterF4 h = refl
-not_start Fault h = refl
-
-pub start-no-fault : Start ≡ Fault → ⊥
-start-no-fault e = false≢true (sym (ap at_start e))
 
 -- the machine decides UTF-8, as the shut test
-no : (bs : List ℕ) → false ≡ accepts Start bs → (well_formed bs ≡ false) × (IsUtf8 bs → ⊥)
+no : (bs : List ℕ) → false ≡ accepts (Some Start) bs → (well_formed bs ≡ false) × (IsUtf8 bs → ⊥)
 unfolding well_formed
 no bs e = (sym e, not_from_Decides false (decided false bs e) refl)
 
-yes-text : (bs : List ℕ) → true ≡ accepts Start bs → (well_formed bs ≡ true) × IsUtf8 bs
+yes-text : (bs : List ℕ) → true ≡ accepts (Some Start) bs → (well_formed bs ≡ true) × IsUtf8 bs
 unfolding well_formed
 yes-text bs e = (sym e, (decided true bs e).0 refl)
 
 -- a fault at a byte
-pub fault-on-the-way : (bs : List ℕ) (i : ℕ) (s : Utf8State) → i < length bs → s ≡ after Start (take i bs) → (s ≡ Fault → ⊥) → Fault ≡ after Start (take (i + 1) bs) → Faulty bs (Byte i)
-fault-on-the-way bs i s h e no-fault f =
-    let n = no bs (rejected bs (i + 1) f) in
-    (n.0, n.1, (h, completable s (take i bs) e no-fault, not-completable (take (i + 1) bs) f))
+pub fault-on-the-way : (bs rest rest' : List ℕ) (s : Utf8State) (b place : ℕ) → Reads bs rest s → rest ≡ b ∷ rest' → None ≡ next (Some s) b → place ≡ length bs - length rest → Faulty bs (Byte place)
+fault-on-the-way bs rest rest' s b place r w k p =
+    let e : bs ≡ r.front ++ (b ∷ rest') = r.whole ∙ ap (λ xs. r.front ++ xs) w in
+    let f : bs ≡ (r.front ++ b ∷ []) ++ rest' = e ∙ sym (append_assoc r.front (b ∷ []) rest') in
+    let at_front : place ≡ length r.front = p ∙ (grind (arith, common_steps)) in
+    let before : take place bs ≡ r.front = rw (e, at_front) (grind (arith, common_steps)) in
+    let with : take (place + 1) bs ≡ r.front ++ b ∷ [] = rw (e, at_front) (grind (arith, common_steps)) in
+    let fault : None ≡ after (Some Start) (r.front ++ b ∷ []) = k ∙ ap (λ x. next x b) r.state ∙ sym (after-append (Some Start) r.front (b ∷ [])) in
+    let n = no bs (rejected (r.front ++ b ∷ []) rest' fault ∙ ap (accepts (Some Start)) (sym f)) in
+    (n.0, n.1, (grind (arith, common_steps), completable s (take place bs) (r.state ∙ ap (after (Some Start)) (sym before)), not-completable (take (place + 1) bs) (fault ∙ ap (after (Some Start)) (sym with))))
 
 -- the state at the end
-pub stopped : (bs : List ℕ) (s : Utf8State) → s ≡ after Start bs → (s ≡ Fault → ⊥) → Scanned bs (Ok s)
-stopped bs s e no-fault = (
-  e,
-  λ start. yes-text bs (sym (ap at_start start) ∙ ap at_start e),
-  λ due. let n = no bs (not_start s due ∙ ap at_start e) in (n.0, n.1, (refl, completable s bs e no-fault, n.1)),
-)
+pub stopped : (bs rest : List ℕ) (s : Utf8State) → Reads bs rest s → length rest ≡ 0 → Scanned bs (Ok s)
+stopped bs rest s r z =
+    let all : r.front ≡ bs = let w = r.whole in grind (arith, common_steps) in
+    let e : Some s ≡ after (Some Start) bs = r.state ∙ ap (after (Some Start)) all in (
+      e,
+      λ start. yes-text bs (sym (ap (λ t. at_start (Some t)) start) ∙ ap at_start e),
+      λ due. let n = no bs (not_start s due ∙ ap at_start e) in (n.0, n.1, (refl, completable s bs e, n.1)),
+    )

@@ -1,6 +1,7 @@
 -- The run of a set, one step on and at its end, and that it is the longest. Assumes nothing.
 use Rattle.std.proofs.Common.{◌≡◌, ℕ, zero, suc, ◌+◌, ◌-◌, ◌<◌, ◌≤◌, Bool, true, false, cond, List, [], ◌∷◌, length, get_or, drop, sym, ◌∙◌, subst, ⊎_elim, arith, length-drop, get_or-drop}
-use Rattle.std.specs.List.{prefix_len}
+use Rattle.std.specs.List.{prefix_len, slice_range}
+use Rattle.std.proofs.lemmas.List.{take_all}
 use Rattle.std.proofs.lemmas.List.Sums.{prefix_len-drop_yes, prefix_len-drop_no, prefix_len-drop_all, prefix_len-le-length}
 use Rattle.std.proofs.lemmas.Bool.{cond-true, cond-false, cases_order, true≢false}
 use Rattle.page_bytes.specs.Runs.{run_end, LongestRun}
@@ -86,3 +87,8 @@ run_end-gt is page p h e = omega (arith, run_end-more is page p h e, run_end-ge 
 pub run_end-within : (is : ℕ → Bool) (page : List ℕ) (p s : ℕ) → p ≤ length page → p ≤ s → s ≤ run_end is page p → run_end is page s ≡ run_end is page p
 run_end-within is page p s on l h =
     run_end-is is page s (run_end is page p) h (run_end-le is page p on) (λ k a b. run_end-all is page p k (omega arith) b) (run_end-ends is page p)
+
+-- the run of what stands from a place on
+pub run_end-rest : (is : ℕ → Bool) (page rest : List ℕ) (from len : ℕ) → from ≤ length page → rest ≡ slice_range page from (length page) → len ≡ prefix_len is rest → from + len ≡ run_end is page from
+unfolding run_end
+run_end-rest is page rest from len h r e = let all : slice_range page from (length page) ≡ drop from page = take_all (length page - from) (drop from page) (omega (arith, length-drop from page)) in rw (e, r, all)

@@ -1,6 +1,6 @@
 -- Well-formed UTF-8, and where bytes cease to be it. `IsUtf8 bs` is the library's: bs encodes a list of scalar values.
 -- Assumes nothing.
-use Rattle.std.specs.Prelude.{◌≡◌, ℕ, ◌+◌, ◌<◌, Bool, true, false, List, ◌++◌, length, take, Ok, Err, IsUtf8, Result, ◌≢◌}
+use Rattle.std.specs.Prelude.{◌≡◌, ℕ, ◌+◌, ◌<◌, Bool, true, false, List, ◌++◌, length, take, Some, Ok, Err, IsUtf8, Result, ◌≢◌}
 use Rattle.page_bytes.specs.declared.utf8_state.Utf8State.{Utf8State}
 use Rattle.page_bytes.specs.declared.utf8_state.Utf8State.TheVariants.{Start}
 use Rattle.page_bytes.specs.declared.utf8_fault.Utf8Fault.{Utf8Fault}
@@ -9,7 +9,7 @@ use Rattle.page_bytes.specs.Machine.{after, accepts}
 
 -- the test that decides `IsUtf8`
 unfoldable pub well_formed : List ℕ → Bool
-well_formed bs = accepts Start bs
+well_formed bs = accepts (Some Start) bs
 
 -- some well-formed text begins with these bytes
 abbrev pub Completable : List ℕ → Type 0
@@ -35,10 +35,14 @@ place_of (End len) = len
 abbrev pub Faulty : List ℕ → Utf8Fault → Type 0
 Faulty bs fault = (well_formed bs ≡ false) × (IsUtf8 bs → ⊥) × FaultIn bs fault
 
+-- the second bytes are left of the first behind some that leave the machine in its state
+abbrev pub Skips : Utf8State → List ℕ → List ℕ → Type 0
+Skips s bs rest = (front : List ℕ) × (bs ≡ front ++ rest) × (after (Some s) front ≡ Some s)
+
 -- where the machine stops: at the first fault, or in its state after all of the bytes, which says whether they end between characters
 abbrev pub Scanned : List ℕ → Result Utf8State Utf8Fault → Type 0
 Scanned bs (Ok s) =
-    (s ≡ after Start bs)
+    (Some s ≡ after (Some Start) bs)
     × (s ≡ Start → (well_formed bs ≡ true) × IsUtf8 bs)
     × ((s ≢ Start) → Faulty bs (End (length bs)))
 Scanned bs (Err fault) = Faulty bs fault

@@ -3,9 +3,6 @@ ghost use Rattle.std.specs.Prelude.{◌≡◌, ℕ, Bool, false, ◌||◌, List,
 ghost use Rattle.std.specs.Str.{bytes_eq};
 ghost use Rattle.page_bytes.specs.Names.{listed, in_family};
 
-use crate::class::{Not, OneByte};
-use crate::run::run_end;
-
 // A set of byte strings.
 pub trait NameSet {
     // whether a name is a member
@@ -38,24 +35,18 @@ fn is_listed(list: &[u8], name: &[u8]) -> bool
     if name.is_empty() {
         return false;
     }
-    let mut found = false;
-    let mut start = 0;
-    'names: while start < list.len() {
-        let end = run_end(list, start, &Not(OneByte(b'\n')));
-        let line = &list[start..end];
-        start = end + 1;
+    'names: for line in list.split(|b| *b == b'\n') {
         if line.len() != name.len() {
             continue;
         }
-        for i in 0..name.len() {
-            if line[i] != name[i] {
+        for (a, b) in line.iter().zip(name) {
+            if a != b {
                 continue 'names;
             }
         }
-        found = true;
-        break 'names;
+        return true;
     }
-    found
+    false
 }
 
 impl NameSet for Listed<'_> {

@@ -1,29 +1,26 @@
-ghost use Rattle.std.specs.Prelude.{◌≡◌};
+ghost use Rattle.std.specs.Prelude.{◌≡◌, Some};
 ghost use Rattle.page_bytes.specs.Refusals.{number_of, reason_of};
 
-// Why a call is refused: one enum for the whole product.
-#[derive(Clone, Copy, Debug)]
+use std::fmt;
+
+// Why a call is refused: one enum for the whole product, each refusal with its number.
+#[derive(Clone, Copy, Debug, PartialEq, Eq)]
 pub enum Refusal {
     // the area has more than 16,777,216 bytes
-    AreaTooLong,
+    AreaTooLong = 1,
     // the text reaches past its area
-    PastArea,
+    PastArea = 2,
     // the text has more than 1,048,576 bytes
-    TextTooLong,
+    TextTooLong = 3,
     // the text is not well-formed UTF-8
-    NotUtf8,
+    NotUtf8 = 4,
 }
 
 impl Refusal {
     pub fn number(self) -> u8
         ensures { result ≡ number_of self }
     {
-        match self {
-            Refusal::AreaTooLong => 1,
-            Refusal::PastArea => 2,
-            Refusal::TextTooLong => 3,
-            Refusal::NotUtf8 => 4,
-        }
+        self as u8
     }
 
     // The ground in words.
@@ -36,5 +33,14 @@ impl Refusal {
             Refusal::TextTooLong => "the text has more than 1048576 bytes",
             Refusal::NotUtf8 => "the text is not well-formed UTF-8",
         }
+    }
+}
+
+// By its ground in words.
+impl fmt::Display for Refusal {
+    ghost output = { λ refusal. Some (reason_of refusal) };
+
+    fn fmt<W: fmt::Write>(&self, f: &mut fmt::Formatter<W>) -> fmt::Result {
+        f.write_str(self.reason())
     }
 }

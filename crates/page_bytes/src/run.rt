@@ -1,31 +1,26 @@
 // The end of the longest run of a class, and the number of its members: one function for all classes.
 ghost use Rattle.std.specs.Prelude.{◌≡◌, count_by};
+ghost use Rattle.std.specs.List.{prefix_len};
 ghost use Rattle.page_bytes.specs.Runs.{run_end, LongestRun};
 
 use crate::class::ByteClass;
+
+// How many bytes at the front are members of the class.
+fn run_len<C: ByteClass>(bytes: &[u8], class: &C) -> usize
+    ensures { result ≡ prefix_len (C.ByteClass.holds class.now) bytes.now }
+{
+    bytes.iter().take_while(|b| class.contains(**b)).count()
+}
 
 // Where the longest run of the class from a place on ends.
 pub fn run_end<C: ByteClass>(page: &[u8], from: usize, class: &C) -> usize
     ensures is { result ≡ run_end (C.ByteClass.holds class.now) page.now from }
     ensures longest { LongestRun (C.ByteClass.holds class.now) page.now from result }
 {
-    if from >= page.len() {
-        return from;
+    match page.get(from..) {
+        Some(rest) => from + run_len(rest, class),
+        None => from,
     }
-    let mut end = from;
-    // four bytes at a time, with one look at the page's end
-    'fours: while page.len() - end >= 4 {
-        for i in end..end + 4 {
-            if !class.contains(page[i]) {
-                return i;
-            }
-        }
-        end += 4;
-    }
-    'ones: while end < page.len() && class.contains(page[end]) {
-        end += 1;
-    }
-    end
 }
 
 // How many bytes of the page are members of the class.

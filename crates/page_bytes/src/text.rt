@@ -1,5 +1,5 @@
 // Which bytes of an area may be read as a text. The grounds for a refusal are tried in the order of their numbers.
-ghost use Rattle.std.specs.Prelude.{◌≡◌, is_ok, IfOk, Decides};
+ghost use Rattle.std.specs.Prelude.{◌≡◌, IsOk, IfOk, ◌↔◌};
 ghost use Rattle.page_bytes.specs.declared.refusal.Refusal.TheVariants.{NotUtf8};
 ghost use Rattle.page_bytes.specs.Refusals.{refusal_of, first_ground, part, area_grounds, part_grounds, text_grounds, page_grounds, IsText, IsPage};
 
@@ -37,16 +37,13 @@ pub fn text_part(area: &[u8], start: u32, len: u32) -> Result<&[u8], Refusal>
 {
     let first = start as usize;
     let end = first + len as usize;
-    if end > area.len() {
-        return Err(Refusal::PastArea);
-    }
-    Ok(&area[first..end])
+    area.get(first..end).ok_or(Refusal::PastArea)
 }
 
 // Whether bytes are a text: not too long, and well-formed UTF-8.
 pub fn check_text(text: &[u8]) -> Result<(), Refusal>
     ensures ground { refusal_of result ≡ first_ground (text_grounds text.now) }
-    ensures exactly { Decides (is_ok result) (IsText text.now) }
+    ensures exactly { IsOk result ↔ IsText text.now }
 {
     if text.len() > MAX_TEXT {
         return Err(Refusal::TextTooLong);
@@ -59,7 +56,7 @@ pub fn check_text(text: &[u8]) -> Result<(), Refusal>
 pub fn checked_page(area: &[u8], start: u32, len: u32) -> Result<&[u8], Refusal>
     ensures ground { refusal_of result ≡ first_ground (page_grounds area.now start len) }
     ensures value { IfOk result (λ text. text.now ≡ part area.now start len) }
-    ensures exactly { Decides (is_ok result) (IsPage area.now start len) }
+    ensures exactly { IsOk result ↔ IsPage area.now start len }
 {
     check_area(area)?;
     let text = text_part(area, start, len)?;

@@ -2,7 +2,7 @@ ghost use Rattle.std.specs.Prelude.{◌≡◌};
 ghost use Rattle.page_bytes.specs.Utf8.{place_of};
 
 // Why bytes are not well-formed UTF-8.
-#[derive(Clone, Copy, Debug)]
+#[derive(Clone, Copy, Debug, PartialEq, Eq)]
 pub enum Utf8Fault {
     // no well-formed text goes on with the byte at this place
     Byte(usize),

@@ -15,6 +15,4 @@ pub enum Utf8State {
     AfterF0,
     // after F4 three, the next in 80..=8F, so that none is above 10FFFF
     AfterF4,
-    // a byte outside the allowed range was read: no text goes on from here
-    Fault,
 }

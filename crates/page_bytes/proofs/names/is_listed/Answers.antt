@@ -1,39 +1,48 @@
-use Rattle.std.proofs.Common.{◌≡◌, ℕ, ◌-◌, ◌<◌, ◌≤◌, false, eqb, List, length, take, drop, sym, ◌∙◌, arith}
+use Rattle.std.proofs.Common.{rules, cond, ◌≡◌, ℕ, ◌<◌, false, eqb, List, [], length, sym, ap, ◌∙◌, ⊎_elim, arith}
 use Rattle.std.proofs.lemmas.Bool.Decides.{nat_tests}
-use Rattle.page_bytes.proofs.Listing.{passed, hit, none_left, knows, same-long, same-on, same-off, same_end}
+use Rattle.std.proofs.lemmas.Fn.{always_returns_same}
+use Rattle.std.proofs.lemmas.Grind.{common_steps}
+use Rattle.std.specs.List.{slice_split}
+use Rattle.std.specs.Iterator.Adapters.{zip_first, zip_second}
+use Rattle.std.specs.Slice.Iter.{iter_rest, split_rest}
+use Rattle.std.specs.Str.{bytes_eq}
+use Rattle.page_bytes.specs.Names.{member}
+use Rattle.page_bytes.proofs.Listing.{is_lf, left_more, passed, hit, knows, same-long, same-on, same-off, same-empty}
 use Rattle.page_bytes.proofs.names.is_listed.Goals as goal
 
 some : (name : List ℕ) → false ≡ eqb (length name) 0 → 0 < length name
 some name e = grind (arith, nat_tests)
 
 pub names-preserved-then-line-name : goal.names-preserved-then-line-name
-names-preserved-then-line-name c = (
-  c.names.invariant.0,
-  passed _ _ _ _ (some _ c.if-is_empty.ensures) c.run_end-end.ensures.is (same-long _ _ c.if-line-name.true) ∙ c.names.invariant.1,
-)
+names-preserved-then-line-name c =
+    let s = c.in-Some.ensures.steps in
+    let more = left_more c.names.line-iterator c.next.new.self c.in-Some.line.now s.0 s.1 (s.2 is_lf (always_returns_same _ _ _ (λ a r q k. search rules))).1 in
+    passed _ _ _ _ _ more (same-long _ _ c.if-line-name.true) c.names.invariant
 
 pub names-preserved : goal.names-preserved
 names-preserved c =
-    let line = take (c.run_end-end.result - c.names.start) (drop c.names.start c.args.list.now) in
-    let l : c.loop-i.i < length line = omega arith in (
-      c.names.invariant.0,
-      passed _ _ _ _ (some _ c.if-is_empty.ensures) c.run_end-end.ensures.is (sym c.loop-i.invariant ∙ same-off line _ _ l c.loop-i-test.true c.if-line-i.true) ∙ c.names.invariant.1,
-    )
+    let s = c.in-Some.ensures.steps in
+    let more = left_more c.names.line-iterator c.next.new.self c.in-Some.line.now s.0 s.1 (s.2 is_lf (always_returns_same _ _ _ (λ a r q k. search rules))).1 in
+    let front : c.in-Some.line.now ≡ iter_rest (zip_first c.into_iter-a-iterator.result) = grind (arith, common_steps) in
+    let back : c.args.name.now ≡ iter_rest (zip_second c.into_iter-a-iterator.result) = grind (arith, common_steps) in
+    let both : bytes_eq c.in-Some.line.now c.args.name.now ≡ bytes_eq (iter_rest (zip_first c.into_iter-a-iterator.result)) (iter_rest (zip_second c.into_iter-a-iterator.result)) = cc in
+    let s2 = c.in-Some-2.ensures.steps in
+    passed _ _ _ _ _ more (both ∙ sym c.loop-a.invariant.0 ∙ same-off _ _ _ _ _ _ s2.0 s2.1 c.if-a-b.true) c.names.invariant
 
-pub loop-i-preserved : goal.loop-i-preserved
-loop-i-preserved c =
-    let line = take (c.run_end-end.result - c.names.start) (drop c.names.start c.args.list.now) in
-    let l : c.loop-i.i < length line = omega arith in
-    same-on line _ _ l c.loop-i-test.true c.if-line-i.false ∙ c.loop-i.invariant
+pub loop-a-preserved : goal.loop-a-preserved
+loop-a-preserved c =
+    let s = c.in-Some-2.ensures.steps in
+    (same-on _ _ _ _ _ _ _ s.0 s.1 c.if-a-b.false c.loop-a.invariant.0, omega (arith, ap length s.0, ap length s.1))
 
-pub returns-after-names : goal.returns-after-names
-returns-after-names c =
-    let h = some _ c.if-is_empty.ensures in
-    c.names.invariant.0 ∙ knows c.args.list.now c.args.name.now _ h (sym c.names.invariant.1 ∙ none_left _ _ _ h c.names-test.false)
+pub returns-in-names : goal.returns-in-names
+returns-in-names c =
+    let s = c.in-Some.ensures.steps in
+    let more = left_more c.names.line-iterator c.next.new.self c.in-Some.line.now s.0 s.1 (s.2 is_lf (always_returns_same _ _ _ (λ a r q k. search rules))).1 in
+    let front : c.in-Some.line.now ≡ iter_rest (zip_first c.into_iter-a-iterator.result) = grind (arith, common_steps) in
+    let back : c.args.name.now ≡ iter_rest (zip_second c.into_iter-a-iterator.result) = grind (arith, common_steps) in
+    let both : bytes_eq c.in-Some.line.now c.args.name.now ≡ bytes_eq (iter_rest (zip_first c.into_iter-a-iterator.result)) (iter_rest (zip_second c.into_iter-a-iterator.result)) = cc in
+    knows c.args.list.now c.args.name.now _ (some _ c.if-is_empty.ensures) (sym c.names.invariant ∙ hit _ _ _ _ more (both ∙ sym c.loop-a.invariant.0 ∙ same-empty _ _ c.loop-a.invariant.1 (⊎_elim (λ h. h.1.0) (λ h. let e = h.1.0 in c.loop-a.invariant.1 ∙ e) c.in-None-2.ensures.steps)))
 
-pub returns-after-loop-i : goal.returns-after-loop-i
-returns-after-loop-i c =
-    let h = some _ c.if-is_empty.ensures in
-    let line = take (c.run_end-end.result - c.names.start) (drop c.names.start c.args.list.now) in
-    let l : length line ≤ c.loop-i.i = omega arith in
-    knows c.args.list.now c.args.name.now _ h (sym c.names.invariant.1 ∙ hit _ _ _ _ h c.run_end-end.ensures.is (sym c.loop-i.invariant ∙ same_end line _ _ l c.loop-i-test.false))
+pub returns : goal.returns
+returns c =
+    knows c.args.list.now c.args.name.now _ (some _ c.if-is_empty.ensures) (sym c.names.invariant ∙ ap (λ b. member c.args.name.now (cond b [] (slice_split is_lf (split_rest c.names.line-iterator)))) c.in-None.ensures.steps.0)

@@ -1,33 +1,20 @@
-use Rattle.std.proofs.Common.{sym, ◌∙◌, arith}
-use Rattle.page_bytes.proofs.RunLaws.{run_end-more, run_end-stop, run_end-past, longest}
+use Rattle.std.proofs.Common.{sym, arith}
+use Rattle.std.proofs.lemmas.Grind.{common_steps}
+use Rattle.page_bytes.proofs.RunLaws.{longest, run_end-rest, run_end-past, run_end-le}
 use Rattle.page_bytes.proofs.run.run_end.Goals as goal
 
-pub returns-then-from-page : goal.returns-then-from-page
-returns-then-from-page g c =
-    let e = sym (run_end-past (g.C.ByteClass.holds c.args.class.now) c.args.page.now c.args.from c.if-from-page.true) in
+pub overflow_add-result : goal.overflow_add-result
+overflow_add-result g c =
+    let all = c.in-Some.ensures.lookup.0 in
+    omega (arith, run_end-rest (g.C.ByteClass.holds c.args.class.now) _ _ _ _ all.0 all.2 c.run_len.ensures, run_end-le (g.C.ByteClass.holds c.args.class.now) c.args.page.now c.args.from all.0)
+
+pub returns-in-Some : goal.returns-in-Some
+returns-in-Some g c =
+    let all = c.in-Some.ensures.lookup.0 in
+    let e = run_end-rest (g.C.ByteClass.holds c.args.class.now) _ _ _ _ all.0 all.2 c.run_len.ensures in
     record { is = e; longest = longest _ _ _ _ e }
 
-pub loop-i-preserved : goal.loop-i-preserved
-loop-i-preserved g c =
-    (omega arith, run_end-more (g.C.ByteClass.holds c.args.class.now) c.args.page.now c.loop-i.i (omega arith) (sym c.if-not-contains.ensures) ∙ c.loop-i.invariant.1)
-
-pub returns-then-not-contains : goal.returns-then-not-contains
-returns-then-not-contains g c =
-    let stop = run_end-stop (g.C.ByteClass.holds c.args.class.now) c.args.page.now c.loop-i.i (omega arith) (sym c.if-not-contains.ensures) in
-    let e = sym stop ∙ c.loop-i.invariant.1 in
-    record { is = e; longest = longest _ _ _ _ e }
-
-pub ones-preserved : goal.ones-preserved
-ones-preserved g c =
-    (omega arith, run_end-more (g.C.ByteClass.holds c.args.class.now) c.args.page.now c.ones.end (omega arith) (sym c.if-contains.ensures) ∙ c.ones.invariant.1)
-
-pub returns-else-contains : goal.returns-else-contains
-returns-else-contains g c =
-    let stop = run_end-stop (g.C.ByteClass.holds c.args.class.now) c.args.page.now c.ones.end (omega arith) (sym c.if-contains.ensures) in
-    let e = sym stop ∙ c.ones.invariant.1 in
-    record { is = e; longest = longest _ _ _ _ e }
-
-pub returns-after-ones : goal.returns-after-ones
-returns-after-ones g c =
-    let e = sym (run_end-past (g.C.ByteClass.holds c.args.class.now) c.args.page.now c.ones.end c.ones-test.false) ∙ c.ones.invariant.1 in
+pub returns-in-None : goal.returns-in-None
+returns-in-None g c =
+    let e = sym (run_end-past (g.C.ByteClass.holds c.args.class.now) _ _ (grind (arith, common_steps))) in
     record { is = e; longest = longest _ _ _ _ e }

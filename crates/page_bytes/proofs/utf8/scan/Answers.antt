@@ -1,30 +1,21 @@
-use Rattle.std.proofs.Common.{sym, refl, ◌∙◌, arith}
-use Rattle.page_bytes.proofs.Faults.{after_more, pass-run, fault-on-the-way, stopped, at-end, start-no-fault}
+use Rattle.std.proofs.Common.{◌≡◌, Some, None, Err, ◌∷◌, ◌-◌, length, refl, ◌∙◌, arith}
+use Rattle.std.proofs.lemmas.Grind.{common_steps}
+use Rattle.page_bytes.specs.declared.utf8_fault.Utf8Fault.TheVariants.{Byte}
+use Rattle.page_bytes.proofs.Faults.{on, more, fault-on-the-way, stopped}
 use Rattle.page_bytes.proofs.utf8.scan.Goals as goal
 
-pub loop-place-init : goal.loop-place-init
-loop-place-init c =
-    let run = c.run_end-place.ensures.longest in
-    (run.within (omega arith), pass-run c.args.bytes.now 0 _ (omega arith) run refl, start-no-fault)
+pub returns-in_err-state : goal.returns-in_err-state
+returns-in_err-state c =
+    let first : c.loop-byte.rest.now ≡ c.in-Some.byte.now ∷ c.in-Some.behind.now = grind (arith, common_steps) in
+    let none : None ≡ c.after.result = grind (arith, common_steps) in
+    let is : c.from_residual.result ≡ Err (Byte (length c.args.bytes.now - length c.loop-byte.rest.now)) = grind (arith, common_steps) in
+    rw is (fault-on-the-way _ _ _ _ _ _ c.loop-byte.invariant first (none ∙ c.after.ensures) refl)
 
-pub loop-place-preserved : goal.loop-place-preserved
-loop-place-preserved c =
-    (omega arith, after_more _ _ _ _ c.loop-place-test.true c.loop-place.invariant.1 c.after-state.ensures, c.in_default.not-Fault)
-
-pub loop-place-preserved-in-Start : goal.loop-place-preserved-in-Start
-loop-place-preserved-in-Start c =
-    let bytes = c.args.bytes.now in
-    let run = c.run_end-place-in-Start.ensures.longest in
-    let here = after_more bytes _ _ _ c.loop-place-test.true c.loop-place.invariant.1 c.after-state.ensures in
-    (run.within (omega arith), c.in-Start.is ∙ pass-run bytes _ _ (omega arith) run (sym c.in-Start.is ∙ here), c.in_default.not-Fault)
-
-pub returns-in-Fault : goal.returns-in-Fault
-returns-in-Fault c =
-    let bytes = c.args.bytes.now in
-    let here = sym c.in-Fault.is ∙ after_more bytes _ _ _ c.loop-place-test.true c.loop-place.invariant.1 c.after-state.ensures in
-    fault-on-the-way bytes c.loop-place.place c.loop-place.state c.loop-place-test.true c.loop-place.invariant.1 c.loop-place.invariant.2 here
+pub loop-byte-preserved : goal.loop-byte-preserved
+loop-byte-preserved c =
+    let first : c.loop-byte.rest.now ≡ c.in-Some.byte.now ∷ c.in-Some.behind.now = grind (arith, common_steps) in
+    let some : Some c.in_ok-state.state ≡ c.after.result = grind (arith, common_steps) in
+    on _ _ _ _ (more _ _ _ _ _ _ c.loop-byte.invariant first (some ∙ c.after.ensures)) c.skip_ascii-rest-in-Some.ensures
 
 pub returns : goal.returns
-returns c =
-    let bytes = c.args.bytes.now in
-    stopped bytes c.loop-place.state (at-end bytes _ _ c.loop-place-test.false c.loop-place.invariant.1) c.loop-place.invariant.2
+returns c = stopped _ _ _ c.loop-byte.invariant (grind (arith, common_steps))

@@ -1,11 +1,9 @@
-use Rattle.std.proofs.Common.{◌≡◌, ◌-◌, ◌≤◌, length, take}
-use Rattle.page_bytes.specs.declared.utf8_state.Utf8State.TheVariants.{Start, Fault}
-use Rattle.page_bytes.specs.Machine.{after}
+use Rattle.std.proofs.Common.{length}
+use Rattle.page_bytes.proofs.Faults.{Reads}
 use Rattle.page_bytes.proofs.utf8.scan.Given as goal
 
--- the state is the one after the bytes up to the place, and no fault
-abbrev pub invariant-loop-place : goal.invariant-loop-place
-invariant-loop-place l = (l.place ≤ length l.bytes) × (l.state ≡ after Start (take l.place l.bytes)) × (l.state ≡ Fault → ⊥)
+abbrev pub invariant-loop-byte : goal.invariant-loop-byte
+invariant-loop-byte l = Reads l.bytes l.rest l.state
 
-abbrev pub decreases-loop-place : goal.decreases-loop-place
-decreases-loop-place l = length l.bytes - l.place
+abbrev pub decreases-loop-byte : goal.decreases-loop-byte
+decreases-loop-byte l = length l.rest
