@@ -2,33 +2,10 @@
 use Rattle.std.proofs.Common.{◌≡◌, ℕ, zero, suc, ◌+◌, ◌-◌, ◌<◌, ◌≤◌, Bool, true, false, cond, List, [], ◌∷◌, length, get_or, drop, sym, ◌∙◌, subst, ⊎_elim, arith, length-drop, get_or-drop}
 use Rattle.std.specs.List.{prefix_len, slice_range}
 use Rattle.std.proofs.lemmas.List.{take_all}
-use Rattle.std.proofs.lemmas.List.Sums.{prefix_len-drop_yes, prefix_len-drop_no, prefix_len-drop_all, prefix_len-le-length}
+use Rattle.std.proofs.lemmas.List.Sums.{prefix_len-drop_yes, prefix_len-drop_no, prefix_len-drop_all, prefix_len-le-length, prefix_len_passes, prefix_len_stops}
 use Rattle.std.proofs.lemmas.Bool.{cond-true, cond-false, cases_order, true≢false}
 use Rattle.page_bytes.specs.Runs.{run_end, LongestRun}
 use Rattle.page_bytes.proofs.Cases.{by}
-
--- each of the members at the front is one
-front : (is : ℕ → Bool) (bs : List ℕ) (k : ℕ) → k < prefix_len is bs → is (get_or bs k 0) ≡ true
-front is [] k h = absurd (omega arith)
-front is (b ∷ bs) k h =
-    by (is b)
-    (λ q. elim k as (λ n. n < prefix_len is (b ∷ bs) → is (get_or (b ∷ bs) n 0) ≡ true) [
-      | zero ↦ λ _. q
-      | suc n ↦ λ l. let z = cond-true (is b) (1 + prefix_len is bs) 0 q in front is bs n (omega arith)
-    ] h)
-    (λ q. let z = cond-false (is b) (1 + prefix_len is bs) 0 q in absurd (omega arith))
-
--- and what stands behind them is not
-behind : (is : ℕ → Bool) (bs : List ℕ) → prefix_len is bs < length bs → is (get_or bs (prefix_len is bs) 0) ≡ false
-behind is [] h = absurd (omega arith)
-behind is (b ∷ bs) h =
-    by (is b)
-    (λ q.
-    let n : cond (is b) (1 + prefix_len is bs) 0 ≡ 1 + prefix_len is bs = cond-true (is b) _ _ q in
-    let m : 1 + prefix_len is bs ≡ suc (prefix_len is bs) = omega arith in
-    let l : prefix_len is bs < length bs = omega arith in
-    subst (λ m. is (get_or (b ∷ bs) m 0) ≡ false) (sym (n ∙ m)) (behind is bs l))
-    (λ q. subst (λ m. is (get_or (b ∷ bs) m 0) ≡ false) (sym (cond-false (is b) _ _ q)) q)
 
 module _ (is : ℕ → Bool) (page : List ℕ) (p : ℕ) where
   pub run_end-ge : p ≤ run_end is page p
@@ -56,12 +33,12 @@ module _ (is : ℕ → Bool) (page : List ℕ) (p : ℕ) where
   run_end-all k l h =
       let r : p + (k - p) ≡ k = omega arith in
       subst (λ i. is (get_or page i 0) ≡ true) r
-      (subst (λ b. is b ≡ true) (get_or-drop p page (k - p) 0) (front is (drop p page) (k - p) (omega arith)))
+      (subst (λ b. is b ≡ true) (get_or-drop p page (k - p) 0) (prefix_len_passes is (drop p page) (k - p) 0 (omega arith)))
 
   pub run_end-ends : run_end is page p < length page → is (get_or page (run_end is page p) 0) ≡ false
   unfolding run_end
   run_end-ends h =
-      subst (λ b. is b ≡ false) (get_or-drop p page _ 0) (behind is (drop p page) (omega (arith, length-drop p page)))
+      subst (λ b. is b ≡ false) (get_or-drop p page _ 0) (prefix_len_stops is (drop p page) 0 (omega (arith, length-drop p page)))
 
   -- the run ends at a place, if all up to it are members and what stands there is none
   pub run_end-is : (e : ℕ) → p ≤ e → e ≤ length page → ((k : ℕ) → p ≤ k → k < e → is (get_or page k 0) ≡ true) → (e < length page → is (get_or page e 0) ≡ false) → run_end is page p ≡ e
