@@ -1,12 +1,9 @@
 // The kinds of tokens.
-ghost use Rattle.std.specs.Prelude.{◌≡◌, ◌==◌, Decides};
+ghost use Rattle.std.specs.Prelude.{◌≡◌};
 ghost use Rattle.token.specs.Kinds.{number_of, kind_of};
-ghost use Rattle.std.specs.Cmp.Rules.{comparing};
-ghost use Rattle.std.specs.Ordering.{on};
-ghost use Rattle.std.proofs.Common.{rules};
 
 // All that the Rust has, in its order. The rules give only some of them: the others are for later stages of a parser.
-#[derive(Clone, Copy, Debug)]
+#[derive(Clone, Copy, Debug, PartialEq, Eq)]
 pub enum TokenKind {
     Ampersand,
     AttrDef,
@@ -76,19 +73,5 @@ impl TokenKind {
         ensures own { kind_of result ≡ self }
     {
         tag(self)
-    }
-}
-
-// Two kinds are equal where their numbers are.
-impl PartialEq for TokenKind {
-    ghost eq = { on number_of ◌==◌ };
-
-    ghost laws = { Prim.search (comparing, rules) };
-
-    fn eq(&self, other: &TokenKind) -> bool
-        ensures is { result ≡ (number_of self.now == number_of other.now) }
-        ensures same { Decides result (self.now ≡ other.now) }
-    {
-        self.number() == other.number()
     }
 }

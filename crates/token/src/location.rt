@@ -5,7 +5,7 @@ ghost use Rattle.token.specs.Places.{number_of_location, place_at};
 use crate::place::Place;
 
 // Counts with the page's offset. No call takes a place for it.
-#[derive(Clone, Copy, Debug, PartialEq)]
+#[derive(Clone, Copy, Debug, PartialEq, Eq)]
 pub struct Location(u32);
 
 impl Location {
@@ -26,9 +26,6 @@ impl Location {
     pub fn place(self, offset: u32) -> Option<Place>
         ensures { result ≡ place_at self offset }
     {
-        match self.count().checked_sub(offset) {
-            Some(rest) => Some(Place::new(rest)),
-            None => None,
-        }
+        self.count().checked_sub(offset).map(Place::new)
     }
 }

@@ -5,7 +5,7 @@ ghost use Rattle.token.specs.Places.{number_of_place, location_at};
 use crate::location::Location;
 
 // Counts from the page's first byte. No call takes a location for it.
-#[derive(Clone, Copy, Debug, PartialEq)]
+#[derive(Clone, Copy, Debug, PartialEq, Eq)]
 pub struct Place(u32);
 
 impl Place {
@@ -27,9 +27,6 @@ impl Place {
     pub fn location(self, offset: u32) -> Option<Location>
         ensures { result ≡ location_at self offset }
     {
-        match self.count().checked_add(offset) {
-            Some(sum) => Some(Location::new(sum)),
-            None => None,
-        }
+        self.count().checked_add(offset).map(Location::new)
     }
 }
