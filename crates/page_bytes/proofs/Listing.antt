@@ -1,6 +1,6 @@
 -- The lines of a list one by one, and two names byte by byte. Assumes nothing.
-use Rattle.std.proofs.Common.{◌≡◌, ℕ, suc, eq-eqb, ne_eqb, ◌<◌, Bool, true, false, cond, eqb, List, [], ◌∷◌, ◌++◌, length, take, sym, refl, ap, ◌∙◌, arith}
-use Rattle.std.proofs.lemmas.Bool.Decides.{nat_tests, same_from_decides, Decides-like}
+use Rattle.std.proofs.Common.{◌≡◌, ℕ, suc, ne_eqb, ◌<◌, Bool, true, false, cond, eqb, List, [], ◌∷◌, ◌++◌, length, sym, refl, ap, ◌∙◌, arith}
+use Rattle.std.proofs.lemmas.Bool.Decides.{nat_tests}
 use Rattle.std.proofs.lemmas.Grind.{common_steps}
 use Rattle.std.proofs.lemmas.List.Splits.{slice_split_none, slice_split_at}
 use Rattle.std.specs.Bool.{MatchBool}
@@ -8,7 +8,6 @@ use Rattle.std.specs.List.{All, slice_split, IsFirstMatchOrLen}
 use Rattle.std.specs.Slice.Iter.{split_done, split_rest}
 use Rattle.std.specs.Str.{bytes_eq}
 use Rattle.std.specs.declared.slice.Split.{Split}
-use Rattle.std.proofs.lemmas.Slice.Eq.{bytes_eq-Decides}
 use Rattle.page_bytes.proofs.Cases.{by}
 use Rattle.page_bytes.specs.Names.{lines_of, member, listed}
 
@@ -51,11 +50,7 @@ same-long (x ∷ xs) [] h = refl
 same-long (x ∷ xs) (y ∷ ys) h =
     by (eqb x y) (λ q. rw q (same-long xs ys (λ e. h (ap suc e)))) (λ q. rw q)
 
--- one byte more that is the same
-pub same-on : (a b : List ℕ) (x y : ℕ) (xs ys : List ℕ) (v : Bool) → a ≡ x ∷ xs → b ≡ y ∷ ys → x ≡ y → bytes_eq a b ≡ v → bytes_eq xs ys ≡ v
-same-on a b x y xs ys v p q e h = let t : eqb x y ≡ true = eq-eqb x y e in sym (ap (λ l. bytes_eq l b) p ∙ ap (bytes_eq (x ∷ xs)) q ∙ simp t) ∙ h
-
--- one that is not
+-- a byte that is another
 pub same-off : (a b : List ℕ) (x y : ℕ) (xs ys : List ℕ) → a ≡ x ∷ xs → b ≡ y ∷ ys → (x ≡ y → ⊥) → bytes_eq a b ≡ false
 same-off a b x y xs ys p q e = let t : eqb x y ≡ false = ne_eqb x y e in ap (λ l. bytes_eq l b) p ∙ ap (bytes_eq (x ∷ xs)) q ∙ simp t
 
@@ -64,12 +59,3 @@ pub same-empty : (a b : List ℕ) → length a ≡ length b → length a ≡ 0 �
 same-empty [] [] h e = refl
 same-empty [] (y ∷ ys) h e = absurd (omega arith)
 same-empty (x ∷ xs) b h e = absurd (omega arith)
-
--- what `starts_with` answers
-pub begins-so : (beginning name : List ℕ) (r : Bool) → r ≡ bytes_eq beginning (take (length beginning) name) → r ≡ bytes_eq (take (length beginning) name) beginning
-begins-so beginning name r h =
-    let front = take (length beginning) name in
-    let same = bytes_eq beginning front in
-    h ∙ same_from_decides same (bytes_eq front beginning)
-    (Decides-like same sym sym (bytes_eq-Decides beginning front))
-    (bytes_eq-Decides front beginning)

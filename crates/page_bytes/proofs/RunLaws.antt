@@ -1,11 +1,10 @@
 -- The run of a set, one step on and at its end, and that it is the longest. Assumes nothing.
-use Rattle.std.proofs.Common.{◌≡◌, ℕ, zero, suc, ◌+◌, ◌-◌, ◌<◌, ◌≤◌, Bool, true, false, cond, List, [], ◌∷◌, length, get_or, drop, sym, ◌∙◌, subst, ⊎_elim, arith, length-drop, get_or-drop}
+use Rattle.std.proofs.Common.{◌≡◌, ℕ, ◌+◌, ◌-◌, ◌<◌, ◌≤◌, Bool, true, false, List, length, get_or, drop, sym, ◌∙◌, subst, ⊎_elim, arith, length-drop, get_or-drop}
 use Rattle.std.specs.List.{prefix_len, slice_range}
 use Rattle.std.proofs.lemmas.List.{take_all}
 use Rattle.std.proofs.lemmas.List.Sums.{prefix_len-drop_yes, prefix_len-drop_no, prefix_len-drop_all, prefix_len-le-length, prefix_len_passes, prefix_len_stops}
-use Rattle.std.proofs.lemmas.Bool.{cond-true, cond-false, cases_order, true≢false}
+use Rattle.std.proofs.lemmas.Bool.{cases_order, true≢false}
 use Rattle.page_bytes.specs.Runs.{run_end, LongestRun}
-use Rattle.page_bytes.proofs.Cases.{by}
 
 module _ (is : ℕ → Bool) (page : List ℕ) (p : ℕ) where
   pub run_end-ge : p ≤ run_end is page p

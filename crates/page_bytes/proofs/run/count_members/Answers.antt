@@ -1,5 +1,4 @@
-use Rattle.std.proofs.Common.{count_by, sym, ap, ◌∙◌, arith}
-use Rattle.std.proofs.lemmas.List.{take_all}
+use Rattle.std.proofs.Common.{sym, arith}
 use Rattle.std.proofs.lemmas.List.Sums.{count_by_more_yes, count_by_more_no}
 use Rattle.page_bytes.proofs.run.count_members.Goals as goal
 use Rattle.page_bytes.proofs.run.count_members.Goals.{then-contains, else-contains}
@@ -10,8 +9,3 @@ loop-b-preserved g c =
       | then-contains w ↦ let m = count_by_more_yes (g.C.ByteClass.holds c.args.class.now) c.args.page.now c.loop-b.b-index 0 c.loop-b-test.true (sym w.if-contains.ensures) in (omega (arith, w.count-is), omega (arith, w.count-is, m, c.loop-b.invariant.1))
       | else-contains w ↦ let m = count_by_more_no (g.C.ByteClass.holds c.args.class.now) c.args.page.now c.loop-b.b-index 0 c.loop-b-test.true (sym w.if-contains.ensures) in (omega (arith, w.count-is), omega (arith, w.count-is, m, c.loop-b.invariant.1))
     ]
-
-pub returns : goal.returns
-returns g c =
-    c.loop-b.invariant.1
-    ∙ ap (count_by (g.C.ByteClass.holds c.args.class.now)) (take_all c.loop-b.b-index c.args.page.now c.loop-b-test.false)
