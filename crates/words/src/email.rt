@@ -1,11 +1,17 @@
 // A stem before `@`, by a trial scan.
 ghost use Rattle.std.specs.Prelude.{◌≡◌, ◌<◌, true, length};
 ghost use Rattle.marks.specs.Trials.{tried};
-ghost use Rattle.words.specs.Word.{email_end};
+ghost use Rattle.words.specs.Word.{has_byte, email_end};
 
-use crate::names::has_byte;
 use marks::{Cursor, Trial, is_at};
 use page_bytes::{DomainBytes, run_end};
+
+// Whether the byte is one of these. A function of its own: with the library's method in the condition below the proof does not close.
+fn has_byte(bytes: &[u8], b: u8) -> bool
+    ensures { result ≡ has_byte b bytes.now }
+{
+    bytes.contains(&b)
+}
 
 // Passes the `@` and the domain behind it, if they make an e-mail address of what stands before them.
 pub(crate) fn maybe_email(cursor: &mut Cursor, page: &[u8]) -> bool
