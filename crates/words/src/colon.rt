@@ -41,7 +41,7 @@ impl Stem<'_> {
     fn continues_uri_scheme(&self) -> Option<usize>
         ensures { result ≡ scheme_end self.now.page.now self.now.start self.now.end }
     {
-        if is_among(self.text(), &SLASH_SCHEMES) && self.stands_before(b"://") {
+        if self.stands_before(b"://") && is_among(self.text(), &SLASH_SCHEMES) {
             Some(self.end + 3)
         } else if self.text() == b"file".as_slice() && self.stands_before(b":///") {
             Some(self.end + 4)
