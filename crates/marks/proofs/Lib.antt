@@ -1,6 +1,6 @@
 pub mod Texts
+pub mod Bytes
+pub mod Passing
 pub mod Spells
 pub mod Exact
 pub mod Lines
-pub mod References
-mod Terms

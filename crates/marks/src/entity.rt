@@ -1,49 +1,54 @@
 // Character references.
 ghost use Rattle.std.specs.Prelude.{◌≡◌, [], ◌∷◌, codes};
-ghost use Rattle.marks.specs.Entity.{references, entity_end};
-ghost use Rattle.marks.specs.Shape.{one, upto};
+ghost use Rattle.marks.specs.Entity.{named_reference, references, entity_end};
+ghost use Rattle.marks.specs.Shape.{text as exactly, one, upto};
 ghost use Rattle.marks.specs.Spelling.{spelt_end, first_end};
 
-use crate::places::{class_at, is_at, is_escaped, text_at};
-use crate::spelling::upto_end;
+use crate::cursor::Cursor;
 use page_bytes::{Alphanumerics, ByteClass, Digits, HexDigits, Letters};
 
-// The end of one byte of the class or more and of a semicolon.
-fn finish_entity<C: ByteClass>(page: &[u8], place: usize, class: &C) -> Option<usize>
-    ensures { result ≡ spelt_end (one (C.ByteClass.holds class.now) ∷ upto (C.ByteClass.holds class.now) (codes ";") ∷ []) page.now place }
-{
-    if !class_at(page, place, class) {
-        return None;
+impl Cursor<'_> {
+    // The end of one byte of the class or more and of a semicolon.
+    fn finish_entity<C: ByteClass>(mut self, class: &C) -> Option<usize>
+        ensures { result ≡ spelt_end (one (C.ByteClass.holds class.now) ∷ upto (C.ByteClass.holds class.now) (codes ";") ∷ []) self.entry.page.now self.entry.pos }
+    {
+        self.pass_one(class)?;
+        self.upto_end(class, b";")
     }
-    upto_end(page, place + 1, class, b";")
-}
 
-// The end of the character reference that begins there, escaped or not.
-fn reference_end(page: &[u8], place: usize) -> Option<usize>
-    ensures { result ≡ first_end references page.now place }
-{
-    if !is_at(page, place, b'&') {
-        return None;
+    // The end of the number that begins there, behind the text before it, and of a semicolon.
+    fn number_end<C: ByteClass>(mut self, before: &[u8], class: &C) -> Option<usize>
+        ensures { result ≡ spelt_end (exactly before.now ∷ one (C.ByteClass.holds class.now) ∷ upto (C.ByteClass.holds class.now) (codes ";") ∷ []) self.entry.page.now self.entry.pos }
+    {
+        self.pass_text(before)?;
+        self.finish_entity(class)
     }
-    let next = place + 1;
-    if class_at(page, next, &Letters) {
-        return finish_entity(page, next + 1, &Alphanumerics);
-    }
-    if text_at(page, next, b"#x") {
-        return finish_entity(page, place + 3, &HexDigits);
-    }
-    if is_at(page, next, b'#') {
-        return finish_entity(page, place + 2, &Digits);
-    }
-    None
-}
 
-// The end of the character reference that begins there.
-pub fn entity_end(page: &[u8], place: usize) -> Option<usize>
-    ensures { result ≡ entity_end page.now place }
-{
-    if is_escaped(page, place) {
-        return None;
+    // The end of the reference by a name that begins there.
+    fn named_end(mut self) -> Option<usize>
+        ensures { result ≡ spelt_end named_reference self.entry.page.now self.entry.pos }
+    {
+        self.pass_text(b"&")?;
+        self.pass_one(&Letters)?;
+        self.finish_entity(&Alphanumerics)
     }
-    reference_end(page, place)
+
+    // The end of the character reference that begins there, escaped or not.
+    fn reference_end(&self) -> Option<usize>
+        ensures { result ≡ first_end references self.now.page.now self.now.pos }
+    {
+        self.number_end(b"&#", &Digits)
+            .or(self.number_end(b"&#x", &HexDigits))
+            .or(self.named_end())
+    }
+
+    // The end of the character reference that begins there.
+    pub fn entity_end(&self) -> Option<usize>
+        ensures { result ≡ entity_end self.now.page.now self.now.pos }
+    {
+        if self.is_escaped() {
+            return None;
+        }
+        self.reference_end()
+    }
 }
