@@ -1,5 +1,5 @@
 -- What a trial scan answers, as an end. Assumes nothing.
-use Rattle.std.proofs.Common.{◌≡◌, ℕ, Bool, Some, None, Option, refl, ap, ◌∙◌}
+use Rattle.std.proofs.Common.{◌≡◌, ℕ, Bool, Some, None, Option, ap}
 use Rattle.std.specs.Bool.{then_some}
 use Rattle.marks.specs.Trials.{tried}
 

@@ -6,10 +6,7 @@ ghost use Rattle.source_lexer.specs.Chosen.{line_or_run, or_mark, by_rule};
 
 use crate::rule::Rule;
 use crate::start::Start;
-use marks::{
-    Cursor, at_line_start, attr_ref_end, callout, delimiter_end, delimits, entity_end, newline_end,
-    pass_end, punctuation_end, term_end,
-};
+use marks::Cursor;
 use page_bytes::{Blanks, Digits};
 use token::TokenKind;
 
@@ -39,7 +36,11 @@ impl Start<'_> {
     {
         let mark = self.byte();
         let end = self.repeating();
-        if at_line_start(self.page, self.pos) && delimits(self.page, mark, end - self.pos, end) {
+        let behind = Cursor {
+            page: self.page,
+            pos: end,
+        };
+        if self.cursor().at_line_start() && behind.delimits(mark, end - self.pos) {
             (TokenKind::DelimiterLine, end)
         } else {
             (kind, end)
@@ -50,8 +51,9 @@ impl Start<'_> {
     fn callout_end(&self) -> Option<usize>
         ensures { result ≡ callout_end self.now.page.now self.now.pos }
     {
-        let mut cursor = Cursor { pos: self.pos };
-        callout(&mut cursor, self.page).then_some(cursor.pos)
+        let mut cursor = self.cursor();
+        cursor.callout()?;
+        Some(cursor.pos)
     }
 
     // The token by the rule that its first byte chose, if it is no word.
@@ -63,15 +65,15 @@ impl Start<'_> {
             Rule::Blanks => Some((TokenKind::Whitespace, self.run_end(&Blanks))),
             Rule::Number => Some((TokenKind::Digits, self.run_end(&Digits))),
             Rule::LineFeed => Some(self.single(TokenKind::Newline)),
-            Rule::CarriageReturn => codepoint(newline_end(self.page, self.pos), TokenKind::Newline),
+            Rule::CarriageReturn => codepoint(self.cursor().newline_end(), TokenKind::Newline),
             Rule::Run(kind) => Some((kind, self.repeating())),
             Rule::LineOrRun(kind) => Some(self.line_or_repeating(kind)),
             Rule::LineOrMark(kind) => {
-                let end = delimiter_end(self.page, self.pos);
+                let end = self.cursor().delimiter_end();
                 Some(self.codepoint_or_single(end, TokenKind::DelimiterLine, kind))
             }
             Rule::MaybeEntity => {
-                let end = entity_end(self.page, self.pos);
+                let end = self.cursor().entity_end();
                 Some(self.codepoint_or_single(end, TokenKind::Entity, TokenKind::Ampersand))
             }
             Rule::MaybeCallout => {
@@ -79,18 +81,18 @@ impl Start<'_> {
                 Some(self.codepoint_or_single(end, TokenKind::CalloutNumber, TokenKind::LessThan))
             }
             Rule::MaybeAttrRef => {
-                let end = attr_ref_end(self.page, self.pos);
+                let end = self.cursor().attr_ref_end();
                 Some(self.codepoint_or_single(end, TokenKind::AttrRef, TokenKind::OpenBrace))
             }
             Rule::MaybeTerm(kind) => {
-                let end = term_end(self.page, self.pos);
+                let end = self.cursor().term_end();
                 Some(self.codepoint_or_single(end, TokenKind::TermDelimiter, kind))
             }
             Rule::Mark(kind) => Some(self.single(kind)),
             Rule::MaybePunctuation => {
-                codepoint(punctuation_end(self.page, self.pos), TokenKind::Punctuation)
+                codepoint(self.cursor().punctuation_end(), TokenKind::Punctuation)
             }
-            Rule::MaybePass => codepoint(pass_end(self.page, self.pos), TokenKind::AttrPassDbl),
+            Rule::MaybePass => codepoint(self.cursor().pass_end(), TokenKind::AttrPassDbl),
         }
     }
 }

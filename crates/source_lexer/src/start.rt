@@ -3,6 +3,7 @@ ghost use Rattle.std.specs.Prelude.{◌≡◌, ◌+◌, ◌<◌, length, slice_i
 ghost use Rattle.page_bytes.specs.Runs.{run_end};
 ghost use Rattle.source_lexer.specs.Chosen.{same_end};
 
+use marks::Cursor;
 use page_bytes::{ByteClass, OneByte, run_end};
 use token::TokenKind;
 
@@ -14,7 +15,16 @@ pub(crate) struct Start<'p> {
     ghost inside: { pos < length page.now },
 }
 
-impl Start<'_> {
+impl<'p> Start<'p> {
+    pub(crate) fn cursor(&self) -> Cursor<'p>
+        ensures { result ≡ record { page = self.now.page; pos = self.now.pos } }
+    {
+        Cursor {
+            page: self.page,
+            pos: self.pos,
+        }
+    }
+
     // The byte that stands there.
     pub(crate) fn byte(&self) -> u8
         ensures { result ≡ slice_index self.now.page.now self.now.pos }

@@ -17,7 +17,7 @@ impl Start<'_> {
     {
         match self.by_rule(rule_of(self.byte())) {
             Some(token) => token,
-            None => word(self.page, self.pos, names),
+            None => word(&self.cursor(), names),
         }
     }
 }

@@ -6,7 +6,6 @@ ghost use Rattle.words.specs.Stops.{before_colon};
 
 use crate::names::{DIRECTIVES, SLASH_SCHEMES, is_among, is_macro_name};
 use crate::stem::Stem;
-use marks::peek_term_delimiter;
 use page_bytes::NameSet;
 use token::TokenKind;
 
@@ -17,9 +16,11 @@ impl Stem<'_> {
         ensures { result ≡ directive_follows self.now.page.now self.now.start self.now.end }
     {
         let left = self.page.len() - self.end;
-        self.stands_before(b"::")
+        self.behind().text_at(b"::")
             && (left >= 5
-                || self.text() == b"endif".as_slice() && self.stands_before(b"::[]") && left == 4)
+                || self.text() == b"endif".as_slice()
+                    && self.behind().text_at(b"::[]")
+                    && left == 4)
     }
 
     // The directive that begins there, by its name's end.
@@ -41,9 +42,9 @@ impl Stem<'_> {
     fn continues_uri_scheme(&self) -> Option<usize>
         ensures { result ≡ scheme_end self.now.page.now self.now.start self.now.end }
     {
-        if self.stands_before(b"://") && is_among(self.text(), &SLASH_SCHEMES) {
+        if self.behind().text_at(b"://") && is_among(self.text(), &SLASH_SCHEMES) {
             Some(self.end + 3)
-        } else if self.text() == b"file".as_slice() && self.stands_before(b":///") {
+        } else if self.text() == b"file".as_slice() && self.behind().text_at(b":///") {
             Some(self.end + 4)
         } else {
             None
@@ -62,7 +63,7 @@ impl Stem<'_> {
         requires { is_at self.now.page.now self.now.end 58 ≡ true }
         ensures { result ≡ colon_token (N.NameSet.knows names.now) self.now.page.now self.now.start self.now.end }
     {
-        if peek_term_delimiter(self.page, self.end).is_some() {
+        if self.behind().peek_term_delimiter().is_some() {
             return None;
         }
         if let Some(scheme) = self.continues_uri_scheme() {

@@ -1,9 +1,9 @@
 // The stem of a word: its first byte, and all up to a byte that ends a word, or `@`.
 ghost use Rattle.std.specs.Prelude.{◌≡◌, ◌-◌, ◌<◌, ◌≤◌, true, length, Some, None, if◌then◌else◌};
-ghost use Rattle.marks.specs.Places.{part, text_at};
+ghost use Rattle.marks.specs.Places.{part};
 ghost use Rattle.words.specs.Word.{ends_with};
 
-use marks::text_at;
+use marks::Cursor;
 
 // What stands on a page from a place up to another.
 #[derive(Clone, Copy)]
@@ -23,12 +23,14 @@ impl<'p> Stem<'p> {
         &self.page[self.start..self.end]
     }
 
-    // Whether this text follows it.
-    pub(crate) fn stands_before(&self, text: &[u8]) -> bool
-        ensures is { result ≡ text_at text.now self.now.page.now self.now.end }
-        ensures fits { result ≡ true → length text.now ≤ length self.now.page.now - self.now.end }
+    // The place behind it.
+    pub(crate) fn behind(&self) -> Cursor<'p>
+        ensures { result ≡ record { page = self.now.page; pos = self.now.end } }
     {
-        text_at(self.page, self.end, text)
+        Cursor {
+            page: self.page,
+            pos: self.end,
+        }
     }
 
     // Where this text begins, if the stem ends with it. Most stems have another last byte, and are not compared.

@@ -5,7 +5,7 @@ ghost use Rattle.words.specs.Word.{word_or_none};
 
 use crate::email::maybe_email;
 use crate::stem::Stem;
-use marks::{Cursor, is_at};
+use marks::Cursor;
 use page_bytes::{NameSet, StemBytes, WordBytes, run_end};
 use token::TokenKind;
 
@@ -14,22 +14,24 @@ impl Stem<'_> {
     fn before_other(&self) -> (TokenKind, usize)
         ensures { result ≡ before_other self.now.page.now self.now.end }
     {
-        if !is_at(self.page, self.end, b'@') {
+        let mut cursor = self.behind();
+        if !cursor.is_at(b'@') {
             return (TokenKind::Word, self.end);
         }
-        let mut cursor = Cursor { pos: self.end };
-        if maybe_email(&mut cursor, self.page) {
-            return (TokenKind::MaybeEmail, cursor.pos);
+        match maybe_email(&mut cursor) {
+            Some(()) => (TokenKind::MaybeEmail, cursor.pos),
+            None => (
+                TokenKind::Word,
+                run_end(self.page, cursor.pos + 1, &WordBytes),
+            ),
         }
-        let end = run_end(self.page, cursor.pos + 1, &WordBytes);
-        (TokenKind::Word, end)
     }
 
     // The token that begins with it.
     fn token<N: NameSet>(&self, names: &N) -> (TokenKind, usize)
         ensures { result ≡ by_stop (N.NameSet.knows names.now) self.now.page.now self.now.start self.now.end }
     {
-        if is_at(self.page, self.end, b':') {
+        if self.behind().is_at(b':') {
             self.before_colon(names)
         } else {
             self.before_other()
@@ -38,16 +40,13 @@ impl Stem<'_> {
 }
 
 // The word, or what begins as one, at a place where nothing else begins. Where no byte is left, it is a word of none.
-pub fn word<N: NameSet>(page: &[u8], place: usize, names: &N) -> (TokenKind, usize)
-    ensures { result ≡ word_or_none (N.NameSet.knows names.now) page.now place }
+pub fn word<N: NameSet>(cursor: &Cursor, names: &N) -> (TokenKind, usize)
+    ensures { result ≡ word_or_none (N.NameSet.knows names.now) cursor.now.page.now cursor.now.pos }
 {
-    if place >= page.len() {
-        return (TokenKind::Word, place);
+    let Cursor { page, pos: start } = *cursor;
+    if start >= page.len() {
+        return (TokenKind::Word, start);
     }
-    let stem = Stem {
-        page,
-        start: place,
-        end: run_end(page, place + 1, &StemBytes),
-    };
-    stem.token(names)
+    let end = run_end(page, start + 1, &StemBytes);
+    Stem { page, start, end }.token(names)
 }

@@ -35,6 +35,6 @@ pub returns-in-None : goal.returns-in-None
 returns-in-None g c =
     let s = c.args.self.now in
     let known = g.N.NameSet.knows c.args.names.now in
-    let word = c.word.ensures ∙ cond-true (ltb s.pos (length s.page.now)) _ _ (lt-ltb s.pos (length s.page.now) s.inside) in
+    let word = (rw c.cursor.ensures at c.word.ensures) ∙ cond-true (ltb s.pos (length s.page.now)) _ _ (lt-ltb s.pos (length s.page.now) s.inside) in
     let t = told known s.page.now s.pos s.inside (omega arith) _ _ _ (c.rule_of.ensures ∙ ap rule_of c.byte.ensures) c.in-None.ensures word in
     record { is = t.is; onward = t.onward; within = t.within }
