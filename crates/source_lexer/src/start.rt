@@ -33,10 +33,10 @@ impl<'p> Start<'p> {
     }
 
     // A token of that byte alone.
-    pub(crate) fn single(&self, kind: TokenKind) -> (TokenKind, usize)
-        ensures { result ≡ (kind, self.now.pos + 1) }
+    pub(crate) fn single(&self, kind: TokenKind) -> Option<(TokenKind, usize)>
+        ensures { result ≡ Some (kind, self.now.pos + 1) }
     {
-        (kind, self.pos + 1)
+        Some((kind, self.pos + 1))
     }
 
     // The end of that byte and of the run of the class behind it.

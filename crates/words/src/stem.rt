@@ -1,5 +1,5 @@
 // The stem of a word: its first byte, and all up to a byte that ends a word, or `@`.
-ghost use Rattle.std.specs.Prelude.{◌≡◌, ◌-◌, ◌<◌, ◌≤◌, true, length, Some, None, if◌then◌else◌};
+ghost use Rattle.std.specs.Prelude.{◌≡◌, ◌-◌, ◌<◌, ◌≤◌, true, length, if◌then◌else◌};
 ghost use Rattle.marks.specs.Places.{part};
 ghost use Rattle.words.specs.Word.{ends_with};
 

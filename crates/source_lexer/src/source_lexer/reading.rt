@@ -19,7 +19,7 @@ use page_bytes::NameSet;
 use token::{Place, TokenRecord};
 
 // The most bytes that a page may have to be read: a place is a number of 32 bits.
-const MOST: usize = 4_294_967_295;
+const MOST: usize = u32::MAX as usize;
 
 // Gives the token at the reader's place and moves the reader to its end.
 fn read<N: NameSet>(reader: &mut SourceLexer, page: &[u8], names: &N) -> Option<TokenRecord>
