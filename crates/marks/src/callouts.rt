@@ -12,6 +12,8 @@ use page_bytes::{Digits, run_end};
 
 impl Cursor<'_> {
     // Passes a number between two texts, if it stands there.
+    // Inlined, since both calls know their texts.
+    #[inline(always)]
     fn numbered(&mut self, before: &[u8], behind: &[u8]) -> Option<()>
         ensures passed { (is_some result, self.new.pos) ≡ tried (spelt_end (numbered before.now behind.now) self.old.page.now self.old.pos) self.old.pos }
         ensures page { self.new.page ≡ self.old.page }
@@ -31,6 +33,7 @@ impl Cursor<'_> {
         ensures passed { (is_some result, self.new.pos) ≡ tried (option_or (spelt_end (numbered before.now behind.now) self.old.page.now self.old.pos) (spelt_end (exactly dotted.now ∷ []) self.old.page.now self.old.pos)) self.old.pos }
         ensures page { self.new.page ≡ self.old.page }
     {
+        // no `or_else`: the proof learns nothing of a closure that holds a cursor
         match self.numbered(before, behind) {
             Some(()) => Some(()),
             None => self.pass_text(dotted),
@@ -44,16 +47,11 @@ impl Cursor<'_> {
     {
         self.byte()?;
         // the second byte tells which of the four it can be
-        let next = self.with_pos(self.pos + 1);
-        if next.class_at(&Digits) {
-            return self.numbered(b"<", b">");
+        match self.with_pos(self.pos + 1).byte()? {
+            b'0'..=b'9' => self.numbered(b"<", b">"),
+            b'.' => self.pass_text(b"<.>"),
+            b'!' => self.numbered_or(b"<!--", b"-->", b"<!--.-->"),
+            _ => None,
         }
-        if next.is_at(b'.') {
-            return self.pass_text(b"<.>");
-        }
-        if next.is_at(b'!') {
-            return self.numbered_or(b"<!--", b"-->", b"<!--.-->");
-        }
-        None
     }
 }

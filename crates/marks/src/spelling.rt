@@ -11,6 +11,7 @@ impl Cursor<'_> {
     pub(crate) fn text_end(&self, text: &[u8]) -> Option<usize>
         ensures { result ≡ spelt_end (exactly text.now ∷ []) self.now.page.now self.now.pos }
     {
+        // the proof learns nothing of a closure that holds a cursor
         let pos = self.pos;
         self.text_at(text).then(|| pos + text.len())
     }

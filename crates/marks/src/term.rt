@@ -27,6 +27,7 @@ impl Cursor<'_> {
         if self.ends_term() {
             return Some(self.pos);
         }
+        // no `or_else`: the proof learns nothing of a closure that holds a cursor
         self.stopped_end(b":").or(self.stopped_end(b"::"))
     }
 
