@@ -1,8 +1,8 @@
 // Delimiter lines.
 ghost use Rattle.std.specs.Prelude.{◌≡◌, ◌<◌, ◌≤◌, length, IfSome};
-ghost use Rattle.marks.specs.Delimiter.{fence, line_ends, delimits as delimits_line, delimiter_end, length_and_mark};
+ghost use Rattle.marks.specs.Delimiter.{fence, line_ends, delimits, delimiter_end, length_and_mark};
 
-use crate::places::{at_line_start, is_at};
+use crate::cursor::Cursor;
 use page_bytes::{OneByte, run_end};
 
 // Whether so many of a mark, alone on a line, make a delimiter line.
@@ -17,46 +17,41 @@ fn is_fence(mark: u8, count: usize) -> bool
     }
 }
 
-// Whether the line ends there: at CR, LF or the page's end.
-fn line_ends(page: &[u8], place: usize) -> bool
-    ensures { result ≡ line_ends page.now place }
-{
-    place >= page.len() || is_at(page, place, b'\n') || is_at(page, place, b'\r')
-}
-
-// Whether a whole run of so many marks, which ends there, makes a delimiter line where a line starts.
-pub fn delimits(page: &[u8], mark: u8, count: usize, end: usize) -> bool
-    ensures { result ≡ delimits_line page.now mark count end }
-{
-    is_fence(mark, count) && line_ends(page, end) || mark == b'`' && count == 3
-}
-
-// The end of the delimiter line that begins there.
-pub fn delimiter_end(page: &[u8], place: usize) -> Option<usize>
-    ensures is { result ≡ delimiter_end page.now place }
-    ensures onward { IfSome result (λ end. (place < length page.now) × (place ≤ end)) }
-{
-    if place >= page.len() {
-        return None;
+impl Cursor<'_> {
+    // Whether the line ends there: at CR, LF or the page's end.
+    fn line_ends(&self) -> bool
+        ensures { result ≡ line_ends self.now.page.now self.now.pos }
+    {
+        matches!(self.byte(), None | Some(b'\n' | b'\r'))
     }
-    if !at_line_start(page, place) {
-        return None;
-    }
-    let mark = page[place];
-    let end = run_end(page, place, &OneByte(mark));
-    if delimits(page, mark, end - place, end) {
-        Some(end)
-    } else {
-        None
-    }
-}
 
-// Its length and its mark.
-pub fn at_delimiter_line(page: &[u8], place: usize) -> Option<(usize, u8)>
-    ensures { result ≡ length_and_mark page.now place (delimiter_end page.now place) }
-{
-    match delimiter_end(page, place) {
-        Some(end) => Some((end - place, page[place])),
-        None => None,
+    // Whether a whole run of so many marks, which ends there, makes a delimiter line where a line starts.
+    pub fn delimits(&self, mark: u8, count: usize) -> bool
+        ensures { result ≡ delimits self.now.page.now mark count self.now.pos }
+    {
+        is_fence(mark, count) && self.line_ends() || mark == b'`' && count == 3
+    }
+
+    // The end of the delimiter line that begins there.
+    pub fn delimiter_end(&self) -> Option<usize>
+        ensures is { result ≡ delimiter_end self.now.page.now self.now.pos }
+        ensures onward { IfSome result (λ end. (self.now.pos < length self.now.page.now) × (self.now.pos ≤ end)) }
+    {
+        let mark = self.byte()?;
+        if !self.at_line_start() {
+            return None;
+        }
+        let end = run_end(self.page, self.pos, &OneByte(mark));
+        self.with_pos(end)
+            .delimits(mark, end - self.pos)
+            .then_some(end)
+    }
+
+    // Its length and its mark.
+    pub fn at_delimiter_line(&self) -> Option<(usize, u8)>
+        ensures { result ≡ length_and_mark self.now.page.now self.now.pos (delimiter_end self.now.page.now self.now.pos) }
+    {
+        let end = self.delimiter_end()?;
+        Some((end - self.pos, self.page[self.pos]))
     }
 }

@@ -14,13 +14,5 @@ mod term;
 mod trial;
 mod wide;
 
-pub use attr_ref::attr_ref_end;
-pub use callouts::callout;
 pub use cursor::Cursor;
-pub use delimiter::{at_delimiter_line, delimiter_end, delimits};
-pub use entity::entity_end;
-pub use newline::newline_end;
-pub use places::{at_line_start, is_at, text_at};
-pub use term::{peek_term_delimiter, term_end};
 pub use trial::Trial;
-pub use wide::{pass_end, punctuation_end};

@@ -2,22 +2,17 @@
 ghost use Rattle.std.specs.Prelude.{◌≡◌};
 ghost use Rattle.marks.specs.Newline.{newline_end};
 
-use crate::places::is_at;
+use crate::cursor::Cursor;
 
-// The end of the line end that stands there.
-pub fn newline_end(page: &[u8], place: usize) -> Option<usize>
-    ensures { result ≡ newline_end page.now place }
-{
-    if is_at(page, place, b'\n') {
-        return Some(place + 1);
-    }
-    if !is_at(page, place, b'\r') {
-        return None;
-    }
-    let next = place + 1;
-    if is_at(page, next, b'\n') {
-        Some(next + 1)
-    } else {
-        None
+impl Cursor<'_> {
+    // The end of the line end that stands there.
+    pub fn newline_end(&self) -> Option<usize>
+        ensures { result ≡ newline_end self.now.page.now self.now.pos }
+    {
+        match self.byte()? {
+            b'\n' => Some(self.pos + 1),
+            b'\r' if self.with_pos(self.pos + 1).is_at(b'\n') => Some(self.pos + 2),
+            _ => None,
+        }
     }
 }

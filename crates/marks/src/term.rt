@@ -1,67 +1,53 @@
 // Term delimiters.
-ghost use Rattle.std.specs.Prelude.{◌≡◌, ◌+◌, ◌<◌, ◌≤◌, ◌&&◌, [], ◌∷◌, length, if◌then◌else◌, Some, codes};
-ghost use Rattle.marks.specs.Places.{text_at};
+ghost use Rattle.std.specs.Prelude.{◌≡◌, [], ◌∷◌, if◌then◌else◌, codes};
 ghost use Rattle.marks.specs.Term.{ends_term, stopped_end, term_mark_end, term_end};
 
-use crate::places::{at_line_start, is_at, text_at};
+use crate::cursor::Cursor;
 
-// Whether a term may end there: at space, tab, CR, LF or the page's end.
-fn ends_term(page: &[u8], place: usize) -> bool
-    ensures { result ≡ ends_term page.now place }
-{
-    place >= page.len()
-        || is_at(page, place, b' ')
-        || is_at(page, place, b'\t')
-        || is_at(page, place, b'\n')
-        || is_at(page, place, b'\r')
-}
+impl Cursor<'_> {
+    // Whether a term may end there: at space, tab, CR, LF or the page's end.
+    fn ends_term(&self) -> bool
+        ensures { result ≡ ends_term self.now.page.now self.now.pos }
+    {
+        matches!(self.byte(), None | Some(b' ' | b'\t' | b'\n' | b'\r'))
+    }
 
-// Whether the marks stand there, and a term may end behind them.
-fn stops(page: &[u8], place: usize, marks: &[u8]) -> bool
-    ensures { result ≡ (text_at marks.now page.now place && ends_term page.now (place + length marks.now)) }
-{
-    text_at(page, place, marks) && ends_term(page, place + marks.len())
-}
+    // The end of the marks, if they stand there and a term may end behind them.
+    fn stopped_end(&self, marks: &[u8]) -> Option<usize>
+        ensures { result ≡ stopped_end (marks.now ∷ []) self.now.page.now self.now.pos }
+    {
+        let end = self.text_end(marks)?;
+        self.with_pos(end).ends_term().then_some(end)
+    }
 
-// Where a term may end, at a place behind two colons: there, or behind one colon more, or behind two.
-fn colons_end(page: &[u8], place: usize) -> Option<usize>
-    requires { place ≤ length page.now }
-    ensures { result ≡ (if ends_term page.now place then Some place else stopped_end (codes ":" ∷ codes "::" ∷ []) page.now place) }
-{
-    if ends_term(page, place) {
-        return Some(place);
+    // Where a term may end, at a place behind two colons: there, or behind one colon more, or behind two.
+    fn colons_end(&self) -> Option<usize>
+        ensures { result ≡ (if ends_term self.now.page.now self.now.pos then Some self.now.pos else stopped_end (codes ":" ∷ codes "::" ∷ []) self.now.page.now self.now.pos) }
+    {
+        if self.ends_term() {
+            return Some(self.pos);
+        }
+        // no `or_else`: the proof learns nothing of a closure that holds a cursor
+        self.stopped_end(b":").or(self.stopped_end(b"::"))
     }
-    if !is_at(page, place, b':') {
-        return None;
-    }
-    if ends_term(page, place + 1) {
-        return Some(place + 1);
-    }
-    if is_at(page, place + 1, b':') && ends_term(page, place + 2) {
-        return Some(place + 2);
-    }
-    None
-}
 
-// The end of the marks of a term delimiter that stand there, whether a line starts there or not.
-pub fn peek_term_delimiter(page: &[u8], place: usize) -> Option<usize>
-    ensures { result ≡ term_mark_end page.now place }
-{
-    if text_at(page, place, b"::") {
-        return colons_end(page, place + 2);
+    // The end of the marks of a term delimiter that stand there, whether a line starts there or not.
+    pub fn peek_term_delimiter(&self) -> Option<usize>
+        ensures { result ≡ term_mark_end self.now.page.now self.now.pos }
+    {
+        match self.text_end(b"::") {
+            Some(behind) => self.with_pos(behind).colons_end(),
+            None => self.stopped_end(b";;"),
+        }
     }
-    if stops(page, place, b";;") {
-        return Some(place + 2);
-    }
-    None
-}
 
-// The end of the term delimiter that begins there.
-pub fn term_end(page: &[u8], place: usize) -> Option<usize>
-    ensures { result ≡ term_end page.now place }
-{
-    if at_line_start(page, place) {
-        return None;
+    // The end of the term delimiter that begins there.
+    pub fn term_end(&self) -> Option<usize>
+        ensures { result ≡ term_end self.now.page.now self.now.pos }
+    {
+        if self.at_line_start() {
+            return None;
+        }
+        self.peek_term_delimiter()
     }
-    peek_term_delimiter(page, place)
 }

@@ -1,38 +1,35 @@
 // A guard for a trial scan.
-ghost use Rattle.std.specs.Prelude.{◌≡◌, true, if◌then◌else◌};
+ghost use Rattle.std.specs.Prelude.{◌≡◌, unwrap_or};
 
 use crate::cursor::Cursor;
 
 // Holds the cursor during a trial scan, and the place to go back to. However the scan is left, the cursor goes back there, unless the scan
 // was accepted.
-pub struct Trial<'c> {
-    pub cursor: &'c mut Cursor,
-    pub back: usize,
-    pub accepted: bool,
+// It has no `new`, so a scan writes it out: of a call that a cursor with a lifetime is lent to, the caller's proof did not learn that the
+// guard holds that cursor.
+pub struct Trial<'c, 'p> {
+    pub cursor: &'c mut Cursor<'p>,
+    // none once the scan is accepted
+    pub back: Option<usize>,
 }
 
-impl Trial<'_> {
+impl Trial<'_, '_> {
     // Accepts the scan: the cursor stays where it is.
     pub fn accept(&mut self)
-        ensures accepted { self.new.accepted ≡ true }
+        ensures accepted { self.new.back ≡ None }
         ensures cursor { self.new.cursor.now ≡ self.old.cursor.now }
-        ensures back { self.new.back ≡ self.old.back }
         ensures lender { self.new.cursor.ghost_name ≡ self.old.cursor.ghost_name }
     {
-        self.accepted = true;
+        self.back = None;
     }
 }
 
-impl Drop for Trial<'_> {
+impl Drop for Trial<'_, '_> {
     fn drop(self)
-        ensures { self.exit.0.now ≡ record { pos = (if self.entry.accepted then self.entry.cursor.now.pos else self.entry.back) } }
+        ensures { self.exit.0.now ≡ record { page = self.entry.cursor.now.page; pos = unwrap_or self.entry.back self.entry.cursor.now.pos } }
     {
-        let Trial {
-            cursor,
-            back,
-            accepted,
-        } = self;
-        if !accepted {
+        let Trial { cursor, back } = self;
+        if let Some(back) = back {
             cursor.pos = back;
         }
     }

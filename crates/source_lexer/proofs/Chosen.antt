@@ -1,5 +1,5 @@
 -- The token by its first byte is the first candidate that fits. Assumes nothing.
-use Rattle.std.proofs.Common.{◌≡◌, ℕ, zero, suc, ◌+◌, ◌-◌, ◌<◌, Bool, true, false, cond, not, ◌&&◌, eqb, ltb, List, [], ◌∷◌, length, get_or, Some, None, Option, sym, refl, ap, ◌∙◌, subst, arith}
+use Rattle.std.proofs.Common.{◌≡◌, ℕ, ◌+◌, ◌-◌, ◌<◌, Bool, true, false, cond, not, ◌&&◌, eqb, List, [], ◌∷◌, length, get_or, Some, None, Option, sym, refl, ap, ◌∙◌, arith}
 use Rattle.std.specs.Char.{is_ascii_digit}
 use Rattle.std.proofs.lemmas.Bool.{and_parts, not-true, cond-true, cond-false, eqb-true, eq-eqb}
 use Rattle.std.proofs.lemmas.Bool.Decides.{nat_tests}
@@ -84,26 +84,9 @@ rule-kind b h = same-values (λ m. kind_of (rule_of m)) (λ m. claimed (rule_of 
 abbrev right : Rule → ℕ → Bool
 right l b = sure l b && covers (tries l) (out b)
 
--- the test passes at every number below n
-abbrev below : (ℕ → Bool) → ℕ → Bool
-below f zero = true
-below f (suc n) = f n && below f n
-
-below_at : (f : ℕ → Bool) (n k : ℕ) → below f n ≡ true → k < n → f k ≡ true
-below_at f zero k h l = absurd (omega arith)
-below_at f (suc n) k h l =
-    let ab = and_parts (f n) (below f n) h in
-    elim (ltb k n) as (λ v. ltb k n ≡ v → f k ≡ true) [
-      | true ↦ λ e. below_at f n k ab.1 (grind (arith, nat_tests))
-      | false ↦ λ e. let s : k ≡ n = grind (arith, nat_tests) in subst (λ m. f m ≡ true) (sym s) ab.0
-    ] refl
-
--- every byte's rule is right: one test, which antt computes
-all_right : below (λ b. right (rule_of b) b) 256 ≡ true
-all_right = refl
-
+-- every byte's rule is right
 pub rule-right : (b : ℕ) → b < 256 → right (rule_of b) b ≡ true
-rule-right b h = below_at (λ m. right (rule_of m) m) 256 b all_right h
+rule-right b h = same-values (λ m. right (rule_of m) m) (λ m. true) true 256 refl b h
 
 module _ (page : List ℕ) (p : ℕ) (on : p < length page) (b : ℕ) (here : get_or page p 0 ≡ b) where
   -- a run that is no blank and no digit is one of a mark

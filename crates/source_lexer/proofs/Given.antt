@@ -52,7 +52,7 @@ same-token p t k e on h =
     ap (λ (j : TokenKind). (j, t.1)) kinds ∙ ap (λ (n : ℕ). (k, n)) ends
 
 no-token : {t : TokenRecord} → ◌≡◌ {A = Option TokenRecord} None (Some t) → ⊥
-no-token h = let z : ◌≡◌ {A = ℕ} 0 1 = cc in omega arith
+no-token h = cc
 
 module _ (known : List ℕ → Bool) (page : List ℕ) (p : ℕ) where
   readable-on : length page ≤ most → p < length page → readable page p ≡ true

@@ -1,5 +1,5 @@
 -- Which candidates a first byte rules out, and the token by those that are left. Assumes nothing.
-use Rattle.std.proofs.Common.{◌≡◌, ℕ, Bool, true, false, not, ◌&&◌, ◌||◌, eqb, List, [], ◌∷◌, get_or, Some, None, Option, sym, refl, ap, ◌∙◌, arith}
+use Rattle.std.proofs.Common.{◌≡◌, ℕ, Bool, true, false, not, ◌&&◌, ◌||◌, eqb, List, [], ◌∷◌, get_or, Some, None, Option, sym, refl, ap, ◌∙◌, arith, is_none}
 use Rattle.std.specs.Char.{is_ascii_digit}
 use Rattle.std.proofs.lemmas.Bool.{and_parts, not-true, true≢false}
 use Rattle.std.proofs.lemmas.Bool.Decides.{nat_tests}
@@ -20,12 +20,9 @@ use Rattle.token.specs.declared.kind.TokenKind.{TokenKind}
 use Rattle.token.specs.declared.kind.TokenKind.TheVariants.{DelimiterLine, Newline, Entity, CalloutNumber, AttrRef, TermDelimiter, Punctuation, AttrPassDbl}
 use Rattle.source_lexer.proofs.Absent.{begins, no-delimiter, no_run, no-newline, no-entity, no-callout, no-attr-ref, no-term, no-mark, no-punctuation, no-pass}
 use Rattle.marks.proofs.Spells.{exactly, apart, apart_from, leads}
+use Rattle.words.proofs.Firsts.{skip}
 
 -- The candidates that a byte rules out, in their order. Each test computes.
-
-abbrev is_none : Option TokenKind → Bool
-is_none None = true
-is_none (Some k) = false
 
 abbrev pub out : ℕ → List Bool
 out b =
@@ -88,9 +85,6 @@ after : (o : Option Token) (os qs : List (Option Token)) (t : Token) → first_o
 after None os qs t h = h
 after (Some u) os qs t h = refl
 
-without : (o : Option Token) (os : List (Option Token)) (t : Token) → o ≡ None → first_of (o ∷ os) t ≡ first_of os t
-without o os t h = ap (λ x. first_of (x ∷ os) t) h
-
 none-picked : (os : List (Option Token)) → pick [] os ≡ []
 none-picked [] = refl
 none-picked (o ∷ os) = refl
@@ -102,11 +96,11 @@ picked ts [] (o ∷ os) t s n c = absurd s
 picked ts (x ∷ xs) [] t s n c = refl
 picked [] (x ∷ xs) (o ∷ os) t s n c =
     let ab = and_parts x (covers [] xs) c in
-    without o os t (n.0 ab.0) ∙ picked [] xs os t s n.1 ab.1 ∙ ap (λ qs. first_of qs t) (none-picked os)
+    skip o os t (n.0 ab.0) ∙ picked [] xs os t s n.1 ab.1 ∙ ap (λ qs. first_of qs t) (none-picked os)
 picked (true ∷ ts) (x ∷ xs) (o ∷ os) t s n c = after o os (pick ts os) t (picked ts xs os t s n.1 c)
 picked (false ∷ ts) (x ∷ xs) (o ∷ os) t s n c =
     let ab = and_parts x (covers ts xs) c in
-    without o os t (n.0 ab.0) ∙ picked ts xs os t s n.1 ab.1
+    skip o os t (n.0 ab.0) ∙ picked ts xs os t s n.1 ab.1
 
 is-none : (o : Option TokenKind) → is_none o ≡ true → o ≡ None
 is-none None h = refl

@@ -194,9 +194,6 @@ module _ (known : List ℕ → Bool) (page : List ℕ) (p : ℕ) (on : p < lengt
       )
       word-traced
 
-clash : {X : Type 0} (k j : TokenKind) → k ≡ j → (k ≡ j → ◌≡◌ {A = ℕ} 0 1) → X
-clash k j h f = absurd (let z = f h in omega arith)
-
 -- the first byte of a spelt token
 
 abbrev first_is : ℕ → List Lead → Bool
@@ -227,7 +224,7 @@ module _ (known : List ℕ → Bool) (page : List ℕ) (p e : ℕ) (on : p < len
   unfolding token_at
   delimiter-token = (
     λ h.
-        ⊎_elim (⊎_elim (λ f. (delimiter-exact page p e).0 f.1) (λ f. clash _ _ f.0 (λ z. cc))) (⊎_elim (λ f. clash _ _ f.0 (λ z. cc)) (⊎_elim (λ f. clash _ _ f.0 (λ z. cc)) (λ f. clash _ _ f.0 (λ z. cc))))
+        ⊎_elim (⊎_elim (λ f. (delimiter-exact page p e).0 f.1) (λ f. cc)) (⊎_elim (λ f. cc) (⊎_elim (λ f. cc) (λ f. cc)))
         (traced known page p on DelimiterLine e refl h),
     λ r. found (of DelimiterLine (delimiter_end page p)) _ (word_token known page p) (DelimiterLine, e) (ap (of DelimiterLine) ((delimiter-exact page p e).1 r)),
   )
@@ -235,7 +232,7 @@ module _ (known : List ℕ → Bool) (page : List ℕ) (p e : ℕ) (on : p < len
   entity-token : (token_at known page p ≡ (Entity, e) → EntityAt page p e) × (EntityAt page p e → token_at known page p ≡ (Entity, e))
   entity-token = (
     λ h.
-        ⊎_elim (⊎_elim (λ f. clash _ _ f.0 (λ z. cc)) (λ f. (entity-exact page p e).0 f.1)) (⊎_elim (λ f. clash _ _ f.0 (λ z. cc)) (⊎_elim (λ f. clash _ _ f.0 (λ z. cc)) (λ f. clash _ _ f.0 (λ z. cc))))
+        ⊎_elim (⊎_elim (λ f. cc) (λ f. (entity-exact page p e).0 f.1)) (⊎_elim (λ f. cc) (⊎_elim (λ f. cc) (λ f. cc)))
         (traced known page p on Entity e refl h),
     λ r.
         let here = by-first-is 38 references page p e refl r.1 in
@@ -247,7 +244,7 @@ module _ (known : List ℕ → Bool) (page : List ℕ) (p e : ℕ) (on : p < len
   callout-token : (token_at known page p ≡ (CalloutNumber, e) → CalloutAt page p e) × (CalloutAt page p e → token_at known page p ≡ (CalloutNumber, e))
   callout-token = (
     λ h.
-        ⊎_elim (⊎_elim (λ f. clash _ _ f.0 (λ z. cc)) (λ f. clash _ _ f.0 (λ z. cc))) (⊎_elim (λ f. (callout-exact page p e).0 f.1) (⊎_elim (λ f. clash _ _ f.0 (λ z. cc)) (λ f. clash _ _ f.0 (λ z. cc))))
+        ⊎_elim (⊎_elim (λ f. cc) (λ f. cc)) (⊎_elim (λ f. (callout-exact page p e).0 f.1) (⊎_elim (λ f. cc) (λ f. cc)))
         (traced known page p on CalloutNumber e refl h),
     λ r.
         let here = by-first-is 60 callouts page p e refl r in
@@ -259,7 +256,7 @@ module _ (known : List ℕ → Bool) (page : List ℕ) (p e : ℕ) (on : p < len
   attr-ref-token : (token_at known page p ≡ (AttrRef, e) → AttrRefAt page p e) × (AttrRefAt page p e → token_at known page p ≡ (AttrRef, e))
   attr-ref-token = (
     λ h.
-        ⊎_elim (⊎_elim (λ f. clash _ _ f.0 (λ z. cc)) (λ f. clash _ _ f.0 (λ z. cc))) (⊎_elim (λ f. clash _ _ f.0 (λ z. cc)) (⊎_elim (λ f. (attr-ref-exact page p e).0 f.1) (λ f. clash _ _ f.0 (λ z. cc))))
+        ⊎_elim (⊎_elim (λ f. cc) (λ f. cc)) (⊎_elim (λ f. cc) (⊎_elim (λ f. (attr-ref-exact page p e).0 f.1) (λ f. cc)))
         (traced known page p on AttrRef e refl h),
     λ r.
         let here = spelt-first-is 123 braced_name page p e refl r.1 in
@@ -271,7 +268,7 @@ module _ (known : List ℕ → Bool) (page : List ℕ) (p e : ℕ) (on : p < len
   directives : (token_at known page p ≡ (Directive, e) → DirectiveAt page p e) × (DirectiveAt page p e → token_at known page p ≡ (Directive, e))
   directives = (
     λ h.
-        ⊎_elim (⊎_elim (λ f. clash _ _ f.0 (λ z. cc)) (λ f. clash _ _ f.0 (λ z. cc))) (⊎_elim (λ f. clash _ _ f.0 (λ z. cc)) (⊎_elim (λ f. clash _ _ f.0 (λ z. cc)) (λ f. f.1)))
+        ⊎_elim (⊎_elim (λ f. cc) (λ f. cc)) (⊎_elim (λ f. cc) (⊎_elim (λ f. cc) (λ f. f.1)))
         (traced known page p on Directive e refl h),
     directive-token known page p e,
   )

@@ -14,7 +14,6 @@ use Rattle.marks.specs.Newline.{newline_end}
 use Rattle.marks.specs.Places.{line_start}
 use Rattle.marks.specs.Term.{term_end}
 use Rattle.marks.specs.Wide.{punctuation_end, pass_end}
-use Rattle.marks.specs.declared.cursor.Cursor.{Cursor}
 use Rattle.source_lexer.specs.declared.rule.Rule.{Rule}
 use Rattle.source_lexer.specs.declared.rule.Rule.TheVariants.{OnlyWord, Blanks, Number, LineFeed, CarriageReturn, Run, LineOrRun, LineOrMark, MaybeEntity, MaybeCallout, MaybeAttrRef, MaybeTerm, Mark, MaybePunctuation, MaybePass}
 use Rattle.token.specs.declared.kind.TokenKind.{TokenKind}
@@ -67,15 +66,6 @@ rule_of b =
 -- the end of the run of the byte that stands there
 abbrev pub same_end : List ℕ → ℕ → ℕ
 same_end page p = run_end (λ b. nat_eq b (slice_index page p)) page (p + 1)
-
--- the token that a cursor has passed: its kind, and where the cursor stands now
-abbrev pub passed : Cursor → TokenKind → Token
-passed cursor kind = (kind, cursor.pos)
-
--- the same, where it may have passed none
-abbrev pub passed_if : Cursor → Option TokenKind → Option Token
-passed_if cursor None = None
-passed_if cursor (Some kind) = Some (passed cursor kind)
 
 -- the longest run of the byte that stands there, as a delimiter line or else under this kind
 abbrev pub line_or_run : TokenKind → List ℕ → ℕ → Token

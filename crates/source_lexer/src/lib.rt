@@ -5,6 +5,7 @@ mod lone;
 mod rule;
 mod rules;
 mod source_lexer;
+mod start;
 mod token_at;
 
 pub use lone::read_page;

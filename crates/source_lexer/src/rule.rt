@@ -4,6 +4,8 @@ ghost use Rattle.source_lexer.specs.Chosen.{rule_of};
 
 use token::TokenKind;
 
+// A value, and no closure: a function may not hand out one, nor a function pointer, and bytes are matched as char literals, which make no
+// table of functions.
 #[derive(Clone, Copy)]
 pub(crate) enum Rule {
     // a word and nothing else

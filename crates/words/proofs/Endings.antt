@@ -1,8 +1,10 @@
 -- A stem that ends in a name. Assumes nothing.
-use Rattle.std.proofs.Common.{◌≡◌, ℕ, ◌+◌, ◌-◌, ◌<◌, ◌≤◌, true, false, List, length, get_or, drop, sym, ap, ◌∙◌, subst, ⊎_elim, arith, length-drop, length-take}
+use Rattle.std.proofs.Common.{◌≡◌, ℕ, ◌+◌, ◌-◌, ◌<◌, ◌≤◌, true, false, List, length, get_or, Some, drop, sym, ap, ◌∙◌, subst, ⊎_elim, arith, length-drop, length-take}
 use Rattle.std.specs.Str.{bytes_eq}
 use Rattle.std.proofs.lemmas.Slice.Eq.{bytes_eq-Decides}
+use Rattle.std.specs.List.{slice_get}
 use Rattle.std.proofs.lemmas.List.{get_or-drop, get_or-take}
+use Rattle.std.proofs.lemmas.Option.{get_or_from_slice_get, slice_get_within}
 use Rattle.std.proofs.lemmas.Bool.{both_ways, cases_lt, cases_Bool}
 use Rattle.marks.specs.Places.{part}
 use Rattle.words.specs.Word.{among, ends_with}
@@ -46,6 +48,10 @@ ending-last w page p q h l some e =
     ∙ ap (λ xs. get_or xs (n - 1) 0) d
 
 -- so a stem with another last byte has another ending
-pub ending-none : (w page : List ℕ) (p q last : ℕ) → p ≤ q → q ≤ length page → 0 < length w → last ≡ get_or w (length w - 1) 0 → (get_or page (q - 1) 0 ≡ last → ⊥) → ends_with w (part page p q) ≡ false
-ending-none w page p q last h l some e other =
-    ⊎_elim (λ t. absurd (other (ending-last w page p q h l some t ∙ sym e))) (λ f. f) (cases_Bool (ends_with w (part page p q)))
+pub ending-none : (w page : List ℕ) (p q last : ℕ) → p ≤ q → q ≤ length page → slice_get w (length w - 1) ≡ Some last → (get_or page (q - 1) 0 ≡ last → ⊥) → ends_with w (part page p q) ≡ false
+ending-none w page p q last h l is other =
+    let some = slice_get_within w (length w - 1) last is in
+    ⊎_elim
+    (λ t. absurd (other (ending-last w page p q h l (omega arith) t ∙ get_or_from_slice_get w (length w - 1) last 0 is)))
+    (λ f. f)
+    (cases_Bool (ends_with w (part page p q)))

@@ -4,6 +4,7 @@
 mod colon;
 mod email;
 mod names;
+mod stem;
 mod words;
 
 pub use names::is_builtin_macro_name;

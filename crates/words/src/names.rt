@@ -1,60 +1,55 @@
 // Names that a word may be, and what a name is made of.
-ghost use Rattle.std.specs.Prelude.{◌≡◌, ◌-◌, ◌<◌, ◌≤◌, true, ◌||◌, length, slice_index};
+ghost use Rattle.std.specs.Prelude.{◌≡◌, ◌||◌};
+ghost use Rattle.std.specs.List.{list_any};
 ghost use Rattle.std.specs.Str.{bytes_eq};
-ghost use Rattle.marks.specs.Places.{part};
-ghost use Rattle.words.specs.Word.{among, ends_with, has_byte, directive_names, slash_schemes, builtin_macros};
+ghost use Rattle.words.specs.Word.{among, builtin_macros};
 
 use page_bytes::NameSet;
 
-// Whether the name is this text.
-pub(crate) fn is_text(name: &[u8], text: &[u8]) -> bool
-    ensures { result ≡ bytes_eq name.now text.now }
-{
-    name == text
-}
+pub(crate) const DIRECTIVES: [&[u8]; 6] = [
+    b"include",
+    b"ifdef",
+    b"ifndef",
+    b"endif",
+    b"ifeval",
+    b"asciidorkinclude",
+];
 
-pub(crate) fn is_directive_name(name: &[u8]) -> bool
-    ensures { result ≡ among directive_names name.now }
-{
-    is_text(name, b"include")
-        || is_text(name, b"ifdef")
-        || is_text(name, b"ifndef")
-        || is_text(name, b"endif")
-        || is_text(name, b"ifeval")
-        || is_text(name, b"asciidorkinclude")
-}
+// The schemes that two slashes follow.
+pub(crate) const SLASH_SCHEMES: [&[u8]; 5] = [b"http", b"https", b"ftp", b"mailto", b"irc"];
 
-// Whether the name is a scheme that is followed by two slashes.
-pub(crate) fn is_slash_scheme(name: &[u8]) -> bool
-    ensures { result ≡ among slash_schemes name.now }
+// The macros that are always known.
+const BUILTIN_MACROS: [&[u8]; 16] = [
+    b"footnote",
+    b"image",
+    b"indexterm",
+    b"indexterm2",
+    b"anchor",
+    b"audio",
+    b"icon",
+    b"kbd",
+    b"link",
+    b"pass",
+    b"btn",
+    b"menu",
+    b"mailto",
+    b"toc",
+    b"xref",
+    b"video",
+];
+
+// Whether the name is one of these. By `any`, since `contains` is no part of its callers' code, and takes longer.
+pub(crate) fn is_among(name: &[u8], names: &[&[u8]]) -> bool
+    ensures { result ≡ list_any (λ n. bytes_eq name.now n.now) names.now }
 {
-    is_text(name, b"http")
-        || is_text(name, b"https")
-        || is_text(name, b"ftp")
-        || is_text(name, b"mailto")
-        || is_text(name, b"irc")
+    names.iter().any(|n| *n == name)
 }
 
 // Whether the name is one of the macros that are always known.
 pub fn is_builtin_macro_name(name: &[u8]) -> bool
     ensures { result ≡ among builtin_macros name.now }
 {
-    is_text(name, b"footnote")
-        || is_text(name, b"image")
-        || is_text(name, b"indexterm")
-        || is_text(name, b"indexterm2")
-        || is_text(name, b"anchor")
-        || is_text(name, b"audio")
-        || is_text(name, b"icon")
-        || is_text(name, b"kbd")
-        || is_text(name, b"link")
-        || is_text(name, b"pass")
-        || is_text(name, b"btn")
-        || is_text(name, b"menu")
-        || is_text(name, b"mailto")
-        || is_text(name, b"toc")
-        || is_text(name, b"xref")
-        || is_text(name, b"video")
+    is_among(name, &BUILTIN_MACROS)
 }
 
 // Whether the name is one of these, or one of the set's.
@@ -62,29 +57,4 @@ pub(crate) fn is_macro_name<N: NameSet>(name: &[u8], names: &N) -> bool
     ensures { result ≡ (among builtin_macros name.now || N.NameSet.knows names.now name.now) }
 {
     is_builtin_macro_name(name) || names.contains_name(name)
-}
-
-// Whether the name ends with this text.
-fn ends_with(name: &[u8], text: &[u8]) -> bool
-    ensures is { result ≡ ends_with text.now name.now }
-    ensures long { result ≡ true → length text.now ≤ length name.now }
-{
-    name.ends_with(text)
-}
-
-// Whether the stem between two places ends with this text, whose last byte is given: most stems have another, and are not compared.
-pub(crate) fn has_ending(page: &[u8], place: usize, end: usize, last: u8, text: &[u8]) -> bool
-    requires stem { (place < end) × (end ≤ length page.now) }
-    requires last { (0 < length text.now) × (last ≡ slice_index text.now (length text.now - 1)) }
-    ensures is { result ≡ ends_with text.now (part page.now place end) }
-    ensures long { result ≡ true → length text.now ≤ end - place }
-{
-    page[end - 1] == last && ends_with(&page[place..end], text)
-}
-
-// Whether the byte is one of these.
-pub(crate) fn has_byte(bytes: &[u8], b: u8) -> bool
-    ensures { result ≡ has_byte b bytes.now }
-{
-    bytes.contains(&b)
 }

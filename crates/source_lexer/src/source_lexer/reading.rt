@@ -14,13 +14,12 @@ ghost use Rattle.source_lexer.specs.Reader.{pos_of, given_at, pos_after, InPage,
 ghost use Rattle.source_lexer.specs.Token.{token_at};
 
 use crate::source_lexer::SourceLexer;
-use crate::token_at::token_at;
-use marks::Cursor;
+use crate::start::Start;
 use page_bytes::NameSet;
 use token::{Place, TokenRecord};
 
 // The most bytes that a page may have to be read: a place is a number of 32 bits.
-const MOST: usize = 4_294_967_295;
+const MOST: usize = u32::MAX as usize;
 
 // Gives the token at the reader's place and moves the reader to its end.
 fn read<N: NameSet>(reader: &mut SourceLexer, page: &[u8], names: &N) -> Option<TokenRecord>
@@ -31,14 +30,13 @@ fn read<N: NameSet>(reader: &mut SourceLexer, page: &[u8], names: &N) -> Option<
     if page.len() > MOST || start >= page.len() {
         return None;
     }
-    let mut cursor = Cursor { pos: start };
-    let kind = token_at(&mut cursor, page, names);
+    let (kind, end) = Start { page, pos: start }.token_at(names);
     let token = TokenRecord {
         kind,
         start: reader.pos,
-        len: (cursor.pos - start) as u32,
+        len: (end - start) as u32,
     };
-    reader.pos = Place::new(cursor.pos as u32);
+    reader.pos = Place::new(end as u32);
     Some(token)
 }
 

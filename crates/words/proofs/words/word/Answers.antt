@@ -4,17 +4,11 @@ use Rattle.words.specs.Word.{word_from, word_token}
 use Rattle.words.proofs.Stops.{word-by-stop}
 use Rattle.words.proofs.words.word.Goals as goal
 
-pub by_stop-requires : goal.by_stop-requires
-by_stop-requires g c =
-    let a = c.advance_to_word_boundary-cursor.ensures.onward in
-    let b = c.advance_to_word_boundary-cursor.ensures.within (omega arith) in
-    (omega arith, omega arith)
-
 pub returns : goal.returns
 unfolding word_token
 returns g c =
-    let page = c.args.page.now in
+    let page = c.args.cursor.now.page.now in
     let p = c.args.cursor.now.pos in
     let known = g.N.NameSet.knows c.args.names.now in
-    c.by_stop.ensures ∙ word-by-stop known page p _ ∙ ap (word_from known page p) c.advance_to_word_boundary-cursor.ensures.is
+    c.token.ensures ∙ word-by-stop known page p _ ∙ ap (word_from known page p) c.run_end-end.ensures.is
     ∙ sym (cond-true (ltb p (length page)) _ _ (lt-ltb p (length page) (omega arith)))
