@@ -9,7 +9,7 @@ pub struct PageSize {
 }
 
 // A fault of the bytes, with the line and the column at which it stands.
-#[derive(Clone, Copy, Debug)]
+#[derive(Clone, Copy, Debug, PartialEq, Eq)]
 pub struct FaultReport {
     pub fault: Utf8Fault,
     pub line: usize,
@@ -17,7 +17,7 @@ pub struct FaultReport {
 }
 
 // Why the printer may not have a page. A fault is reported where the refusal is `NotUtf8`.
-#[derive(Clone, Copy, Debug)]
+#[derive(Clone, Copy, Debug, PartialEq, Eq)]
 pub struct PageRefusal {
     pub refusal: Refusal,
     pub fault: Option<FaultReport>,

@@ -44,11 +44,11 @@ impl fmt::Display for PageRefusal {
     ghost output = { λ refused. Some (refusal_text refused) };
 
     fn fmt<W: fmt::Write>(&self, f: &mut fmt::Formatter<W>) -> fmt::Result {
-        let number = self.refusal.number();
-        let reason = self.refusal.reason();
-        match self.fault {
-            None => write!(f, "refused, number {number}: {reason}"),
-            Some(found) => write!(f, "refused, number {number}: {reason}; {found}"),
+        let PageRefusal { refusal, fault } = *self;
+        let number = refusal.number();
+        match fault {
+            None => write!(f, "refused, number {number}: {refusal}"),
+            Some(found) => write!(f, "refused, number {number}: {refusal}; {found}"),
         }
     }
 }
