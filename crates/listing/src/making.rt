@@ -9,6 +9,7 @@ use crate::position::Position;
 use page_bytes::NameSet;
 use source_lexer::SourceLexer;
 use std::alloc::{AllocError, Global};
+use std::ops::Range;
 use token::Place;
 
 impl Listing {
@@ -34,8 +35,7 @@ pub fn list_page<N: NameSet>(heap: Global, page: &[u8], names: &N) -> Result<Lis
     let mut reader = SourceLexer::new(Place::new(0));
     let mut position = Position::first(page);
     while let Some(token) = reader.next_token(page, names) {
-        let start = token.start.count() as usize;
-        let end = start + token.len as usize;
+        let Range { start, end } = token.range();
         listing.add(position.listed(token), &page[start..end])?;
         position.move_to(end);
     }

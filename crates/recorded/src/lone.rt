@@ -7,6 +7,7 @@ use source_lexer::SourceLexer;
 use std::alloc::Global;
 use std::io;
 use std::io::Write;
+use std::ops::Range;
 use token::Place;
 
 #[derive(Drop)]
@@ -40,8 +41,7 @@ impl LoneCase {
         let mut gap = "";
         while let Some(token) = reader.next_token(page, &names) {
             let kind = token.kind;
-            let start = token.start.count();
-            let end = u64::from(start) + u64::from(token.len);
+            let Range { start, end } = token.range();
             write!(out, "{gap}{kind:?}:{start}:{end}")?;
             gap = " ";
         }
