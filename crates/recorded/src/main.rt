@@ -8,17 +8,18 @@ mod hex_text;
 mod lone;
 mod name_list;
 
-use answer::answer_line;
+use answer::write_answer;
 use fault::Fault;
 use lone::LoneCase;
 use std::alloc::Global;
 use std::io::{BufRead, BufReader, BufWriter, Write};
 use std::process::ExitCode;
+use std::str::from_utf8;
 use std::{env, io};
 
 const USAGE: &str = "usage: recorded [lone]   (cases on standard input, a line each)";
 
-// Answers the cases on standard input, each of them a line to be parsed.
+// Answers the cases on standard input, each of them a line that this step parses.
 fn answer_cases<F>(rt: &HostRuntime, parse: F) -> io::Result<ExitCode>
 where
     F: Fn(Global, &str) -> Result<LoneCase, Fault> + Drop,
@@ -26,7 +27,11 @@ where
 {
     let mut out = BufWriter::new(rt.alloc(), rt.stdout())?;
     for line in BufReader::new(rt.alloc(), rt.stdin())?.split(rt.alloc(), b'\n') {
-        answer_line(rt.alloc(), &parse, &line?, &mut out)?;
+        let line = line?;
+        let case = from_utf8(&line)
+            .map_err(|_| Fault::NotText)
+            .and_then(|line| parse(rt.alloc(), line));
+        write_answer(case, &mut out)?;
     }
     out.flush()?;
     Ok(ExitCode::SUCCESS)
