@@ -72,7 +72,7 @@ fn a_part_of_an_area(rt: HostRuntime) -> Result<(), Fail> {
         "begun inside a character"
     );
     assert_eq!(rt; checked_page(area, 4, 1).err(), Some(Refusal::NotUtf8));
-    let page = text_part(area, 1, 3).ok().ok_or("no part")?;
+    let page = text_part(area, 1, 3)?;
     assert!(rt; page == b"b\xC3\xA9".as_slice(), "the part itself");
     Ok(())
 }
