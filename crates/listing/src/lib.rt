@@ -4,6 +4,7 @@
 mod escaping;
 mod listed;
 mod making;
+mod position;
 
 pub use escaping::escape;
 pub use listed::{ListedToken, Listing};

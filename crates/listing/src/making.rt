@@ -1,33 +1,16 @@
 // The listing of a page, token by token.
 ghost use Rattle.std.specs.Prelude.{◌≡◌, ◌≤◌, [], ◌∷◌, ◌++◌, length, IfOk, OnOk};
-ghost use Rattle.lines.specs.Lines.{line_of, column_of};
 ghost use Rattle.source_lexer.specs.Lone.{tokens_of};
 ghost use Rattle.token.specs.Places.{most};
 ghost use Rattle.listing.specs.Listed.{all_listed};
 
 use crate::listed::{ListedToken, Listing};
+use crate::position::Position;
 use page_bytes::NameSet;
 use source_lexer::SourceLexer;
 use std::alloc::{AllocError, Global};
+use std::ops::Range;
 use token::Place;
-
-// The line and the column of a place, counted on from those of an earlier one.
-fn position_at(page: &[u8], from: usize, line: usize, column: usize, to: usize) -> (usize, usize)
-    requires { (from ≤ to) × ((to ≤ length page.now) × ((line ≡ line_of page.now from) × (column ≡ column_of page.now from))) }
-    ensures { result ≡ (line_of page.now to, column_of page.now to) }
-{
-    let mut at_line = line;
-    let mut at_column = column;
-    for i in from..to {
-        if page[i] == b'\n' {
-            at_line += 1;
-            at_column = 0;
-        } else {
-            at_column += 1;
-        }
-    }
-    (at_line, at_column)
-}
 
 impl Listing {
     // One token more, with its bytes.
@@ -50,18 +33,11 @@ pub fn list_page<N: NameSet>(heap: Global, page: &[u8], names: &N) -> Result<Lis
         text: Vec::new(heap),
     };
     let mut reader = SourceLexer::new(Place::new(0));
-    let mut line = 1;
-    let mut column = 0;
+    let mut position = Position::first(page);
     while let Some(token) = reader.next_token(page, names) {
-        let start = token.start.count() as usize;
-        let end = start + token.len as usize;
-        let listed = ListedToken {
-            token,
-            line,
-            column,
-        };
-        listing.add(listed, &page[start..end])?;
-        (line, column) = position_at(page, start, line, column, end);
+        let Range { start, end } = token.range();
+        listing.add(position.listed(token), &page[start..end])?;
+        position.move_to(end);
     }
     Ok(listing)
 }

@@ -6,7 +6,7 @@ use page_bytes::Refusal;
 use std::alloc::{AllocError, AllocFailed};
 use std::fmt;
 
-#[derive(Clone, Copy)]
+#[derive(Clone, Copy, Debug)]
 pub enum Fault {
     // the page would be refused as a text
     Page(Refusal),
@@ -26,10 +26,7 @@ pub enum Fault {
 impl fmt::Display for Fault {
     fn fmt<W: fmt::Write>(&self, f: &mut fmt::Formatter<W>) -> fmt::Result {
         let reason = match *self {
-            Fault::Page(refusal) => {
-                let number = refusal.number();
-                return write!(f, "R{number}");
-            }
+            Fault::Page(refusal) => return write!(f, "R{}", refusal.number()),
             Fault::NotText => "the line is not UTF-8",
             Fault::NoTab => "a tab is missing",
             Fault::UnknownWord => "unknown word",

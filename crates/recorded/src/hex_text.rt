@@ -15,38 +15,33 @@ struct Piece {
     count: u64,
 }
 
-fn parse_count(digits: &str) -> Result<u64, Fault> {
-    match digits.parse::<u64>() {
-        Ok(count) => Ok(count),
-        Err(_) => Err(Fault::BadCount),
+impl Piece {
+    fn parse(heap: Global, piece: &str) -> Result<Piece, Fault> {
+        let (digits, count) = match piece.split_once('*') {
+            Some((digits, count)) => (digits, count.parse().map_err(|_| Fault::BadCount)?),
+            None => (piece, 1),
+        };
+        let bytes = decode_hex(heap, digits.as_bytes())?;
+        Ok(Piece { bytes, count })
     }
-}
 
-fn parse_piece(heap: Global, piece: &str) -> Result<Piece, Fault> {
-    let (digits, count) = match piece.split_once('*') {
-        Some((digits, count)) => (digits, parse_count(count)?),
-        None => (piece, 1),
-    };
-    let bytes = decode_hex(heap, digits.as_bytes())?;
-    Ok(Piece { bytes, count })
-}
-
-// Puts the piece behind the page. A page that would be too long is refused before it takes up memory.
-fn add_piece(page: &mut Vec<u8>, piece: &Piece) -> Result<(), Fault>
-    ensures { OnOk result (page.new.items ≡ page.old.items ++ repeat piece.now.count piece.now.bytes.items) }
-{
-    let len = piece.bytes.len();
-    if len == 0 {
-        return Ok(());
+    // Puts the piece behind the page. A page that would be too long is refused before it takes up memory.
+    fn add_to(&self, page: &mut Vec<u8>) -> Result<(), Fault>
+        ensures { OnOk result (page.new.items ≡ page.old.items ++ repeat self.now.count self.now.bytes.items) }
+    {
+        let len = self.bytes.len();
+        if len == 0 {
+            return Ok(());
+        }
+        let room = MAX_TEXT.saturating_sub(page.len()) / len;
+        if self.count > room as u64 {
+            return Err(Fault::Page(Refusal::TextTooLong));
+        }
+        for _ in 0..self.count {
+            page.extend_from_slice(&self.bytes)?;
+        }
+        Ok(())
     }
-    let room = MAX_TEXT.saturating_sub(page.len()) / len;
-    if piece.count > room as u64 {
-        return Err(Fault::Page(Refusal::TextTooLong));
-    }
-    for _ in 0..piece.count {
-        page.extend_from_slice(&piece.bytes)?;
-    }
-    Ok(())
 }
 
 // The page that the hex text stands for, if it is a text.
@@ -55,7 +50,7 @@ pub fn parse_page(heap: Global, hex_text: &str) -> Result<Vec<u8>, Fault>
 {
     let mut page = Vec::new(heap);
     for piece in hex_text.split('+') {
-        add_piece(&mut page, &parse_piece(heap, piece)?)?;
+        Piece::parse(heap, piece)?.add_to(&mut page)?;
     }
     check_text(&page)?;
     Ok(page)

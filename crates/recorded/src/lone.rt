@@ -7,6 +7,7 @@ use source_lexer::SourceLexer;
 use std::alloc::Global;
 use std::io;
 use std::io::Write;
+use std::ops::Range;
 use token::Place;
 
 #[derive(Drop)]
@@ -16,28 +17,31 @@ pub struct LoneCase {
 }
 
 impl LoneCase {
-    pub fn parse(heap: Global, case: &str) -> Result<LoneCase, Fault> {
-        let Some((names, page)) = case.split_once('\t') else {
-            return Err(Fault::NoTab);
-        };
+    // The case that a line of lone cases holds.
+    pub fn parse(heap: Global, line: &str) -> Result<LoneCase, Fault> {
+        let (names, page) = line.split_once('\t').ok_or(Fault::NoTab)?;
         let names = parse_names(heap, names)?;
         let page = parse_page(heap, page)?;
         Ok(LoneCase { names, page })
     }
 
-    // Writes each token as it is read. A token has a byte at least, so there are no more tokens than bytes.
+    // The case that a line of mixed cases holds: it begins with the case's word and a tab.
+    pub fn parse_mixed(heap: Global, line: &str) -> Result<LoneCase, Fault> {
+        match line.split_once('\t').ok_or(Fault::NoTab)? {
+            ("lone", case) => LoneCase::parse(heap, case),
+            _ => Err(Fault::UnknownWord),
+        }
+    }
+
+    // Writes each token as it is read.
     pub fn write_tokens<W: Write>(&self, out: &mut W) -> io::Result<()> {
         let page = self.page.as_slice();
         let names = Listed(self.names.as_slice());
         let mut reader = SourceLexer::new(Place::new(0));
         let mut gap = "";
-        for _ in 0..page.len() {
-            let Some(token) = reader.next_token(page, &names) else {
-                break;
-            };
+        while let Some(token) = reader.next_token(page, &names) {
             let kind = token.kind;
-            let start = token.start.count();
-            let end = u64::from(start) + u64::from(token.len);
+            let Range { start, end } = token.range();
             write!(out, "{gap}{kind:?}:{start}:{end}")?;
             gap = " ";
         }

@@ -8,58 +8,51 @@ mod hex_text;
 mod lone;
 mod name_list;
 
-use answer::{Cases, answer_line};
+use answer::write_answer;
+use fault::Fault;
+use lone::LoneCase;
+use std::alloc::Global;
 use std::io::{BufRead, BufReader, BufWriter, Write};
 use std::process::ExitCode;
+use std::str::from_utf8;
 use std::{env, io};
 
 const USAGE: &str = "usage: recorded [lone]   (cases on standard input, a line each)";
 
-fn answer_cases(rt: &HostRuntime, cases: Cases) -> io::Result<()> {
+// Answers the cases on standard input, each of them a line that this step parses.
+fn answer_cases<F>(rt: &HostRuntime, parse: F) -> io::Result<ExitCode>
+where
+    F: Fn(Global, &str) -> Result<LoneCase, Fault> + Drop,
+    requires { F.IsAlwaysCallable parse }
+{
     let mut out = BufWriter::new(rt.alloc(), rt.stdout())?;
     for line in BufReader::new(rt.alloc(), rt.stdin())?.split(rt.alloc(), b'\n') {
         let line = line?;
-        answer_line(rt.alloc(), cases, &line, &mut out)?;
+        let case = from_utf8(&line)
+            .map_err(|_| Fault::NotText)
+            .and_then(|line| parse(rt.alloc(), line));
+        write_answer(case, &mut out)?;
     }
-    out.flush()
+    out.flush()?;
+    Ok(ExitCode::SUCCESS)
 }
 
-// Which cases the arguments ask for; none where there is no such request.
-fn requested(rt: &HostRuntime) -> io::Result<Option<Cases>> {
-    let mut args = env::args(rt)?;
-    args.next();
+fn run(rt: &HostRuntime) -> io::Result<ExitCode> {
+    let mut args = env::args(rt)?.skip(1);
     let Some(argument) = args.next() else {
-        return Ok(Some(Cases::Mixed));
+        return answer_cases(rt, LoneCase::parse_mixed);
     };
     if argument.as_str() == "lone" && args.next().is_none() {
-        return Ok(Some(Cases::Lone));
+        return answer_cases(rt, LoneCase::parse);
     }
-    Ok(None)
-}
-
-// Whether there was such a request. If not, the usage goes to standard error.
-fn run(rt: &HostRuntime) -> io::Result<bool> {
-    match requested(rt)? {
-        Some(cases) => {
-            answer_cases(rt, cases)?;
-            Ok(true)
-        }
-        None => {
-            eprintln!(rt; "{USAGE}")?;
-            Ok(false)
-        }
-    }
+    eprintln!(rt; "{USAGE}")?;
+    Ok(ExitCode::FAILURE)
 }
 
 fn main(rt: HostRuntime) -> ExitCode {
-    match run(&rt) {
-        Ok(true) => ExitCode::SUCCESS,
-        // the usage stands on standard error: this is the status alone
-        Ok(false) => ExitCode::FAILURE,
-        Err(e) => {
-            // where standard error takes nothing either, the status alone tells
-            let _ = eprintln!(rt; "recorded: {e}");
-            ExitCode::FAILURE
-        }
-    }
+    run(&rt).unwrap_or_else(|e| {
+        // where standard error takes nothing either, the status alone tells
+        let _ = eprintln!(rt; "recorded: {e}");
+        ExitCode::FAILURE
+    })
 }

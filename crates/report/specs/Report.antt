@@ -1,5 +1,5 @@
 -- What the report of a page says. Assumes nothing.
-use Rattle.std.specs.Prelude.{◌≡◌, ℕ, Bool, true, false, List, ◌++◌, length, Some, None, encode_utf8_all, Option}
+use Rattle.std.specs.Prelude.{◌≡◌, ℕ, Bool, true, List, ◌++◌, length, Some, None, Ok, Err, encode_utf8_all, Option, Result}
 use Rattle.std.specs.Str.{all_scalars}
 use Rattle.page_bytes.specs.declared.refusal.Refusal.{Refusal}
 use Rattle.page_bytes.specs.declared.refusal.Refusal.TheVariants.{AreaTooLong, PastArea, TextTooLong, NotUtf8}
@@ -7,8 +7,8 @@ use Rattle.page_bytes.specs.Refusals.{number_of, first_ground, area_grounds, tex
 use Rattle.page_bytes.specs.Utf8.{FaultIn, place_of}
 use Rattle.lines.specs.Lines.{line_of, column_of, line_count}
 use Rattle.report.specs.declared.page_report.FaultReport.{FaultReport}
-use Rattle.report.specs.declared.page_report.PageReport.{PageReport}
-use Rattle.report.specs.declared.page_report.PageReport.TheVariants.{Accepted, Refused}
+use Rattle.report.specs.declared.page_report.PageRefusal.{PageRefusal}
+use Rattle.report.specs.declared.page_report.PageSize.{PageSize}
 
 -- the grounds for refusing a page that is its whole area, in the order in which they are tried
 abbrev pub whole_grounds : List ℕ → List (ℕ × Bool)
@@ -30,12 +30,11 @@ FaultReported page PastArea fault = fault ≡ None
 FaultReported page TextTooLong fault = fault ≡ None
 
 -- where no ground holds, the page's size; else the first ground, and the fault
-abbrev pub Reported : List ℕ → PageReport → Type 0
-Reported page (Accepted bytes lines characters) =
-    (first_ground (whole_grounds page) ≡ None) × (bytes ≡ length page) × (lines ≡ line_count page) × Characters page characters
-Reported page (Refused refusal fault) = (first_ground (whole_grounds page) ≡ Some (number_of refusal)) × FaultReported page refusal fault
-
--- the printer may have the page
-abbrev pub accepted : PageReport → Bool
-accepted (Accepted bytes lines characters) = true
-accepted (Refused refusal fault) = false
+abbrev pub Reported : List ℕ → Result PageSize PageRefusal → Type 0
+Reported page (Ok size) =
+    (first_ground (whole_grounds page) ≡ None)
+    × (size.bytes ≡ length page)
+    × (size.lines ≡ line_count page)
+    × Characters page size.characters
+Reported page (Err refused) =
+    (first_ground (whole_grounds page) ≡ Some (number_of refused.refusal)) × FaultReported page refused.refusal refused.fault

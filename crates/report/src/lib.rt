@@ -5,5 +5,5 @@ mod page_report;
 mod reporting;
 mod shown;
 
-pub use page_report::{FaultReport, PageReport};
+pub use page_report::{FaultReport, PageRefusal, PageSize};
 pub use reporting::report_page;

@@ -1,25 +1,24 @@
 use page_bytes::{Refusal, Utf8Fault};
 
+// The size of a page that the printer may have.
+#[derive(Clone, Copy, Debug, PartialEq, Eq)]
+pub struct PageSize {
+    pub bytes: usize,
+    pub lines: usize,
+    pub characters: usize,
+}
+
 // A fault of the bytes, with the line and the column at which it stands.
-#[derive(Clone, Copy)]
+#[derive(Clone, Copy, Debug, PartialEq, Eq)]
 pub struct FaultReport {
     pub fault: Utf8Fault,
     pub line: usize,
     pub column: usize,
 }
 
-// What is said of a page.
-#[derive(Clone, Copy)]
-pub enum PageReport {
-    // the printer may have it
-    Accepted {
-        bytes: usize,
-        lines: usize,
-        characters: usize,
-    },
-    // it may not; a fault is reported where the refusal is `NotUtf8`
-    Refused {
-        refusal: Refusal,
-        fault: Option<FaultReport>,
-    },
+// Why the printer may not have a page. A fault is reported where the refusal is `NotUtf8`.
+#[derive(Clone, Copy, Debug, PartialEq, Eq)]
+pub struct PageRefusal {
+    pub refusal: Refusal,
+    pub fault: Option<FaultReport>,
 }

@@ -1,18 +1,38 @@
 ghost use Rattle.std.specs.Prelude.{Some};
-ghost use Rattle.report.specs.Shown.{fault_text, report_text};
+ghost use Rattle.report.specs.Shown.{fault_text, size_text, refusal_text};
 
-use crate::page_report::{FaultReport, PageReport};
+use crate::page_report::{FaultReport, PageRefusal, PageSize};
 use page_bytes::Utf8Fault;
+use std::error::Error;
 use std::fmt;
+
+impl fmt::Display for PageSize {
+    ghost output = { λ size. Some (size_text size) };
+
+    fn fmt<W: fmt::Write>(&self, f: &mut fmt::Formatter<W>) -> fmt::Result {
+        let PageSize {
+            bytes,
+            lines,
+            characters,
+        } = *self;
+        write!(
+            f,
+            "accepted: bytes {bytes}, lines {lines}, characters {characters}"
+        )
+    }
+}
 
 impl fmt::Display for FaultReport {
     ghost output = { λ found. Some (fault_text found) };
 
     fn fmt<W: fmt::Write>(&self, f: &mut fmt::Formatter<W>) -> fmt::Result {
-        let place = self.fault.place();
-        let line = self.line;
-        let column = self.column;
-        let what = match self.fault {
+        let FaultReport {
+            fault,
+            line,
+            column,
+        } = *self;
+        let place = fault.place();
+        let what = match fault {
             Utf8Fault::Byte(_) => "no character has this byte here",
             Utf8Fault::End(_) => "the text ends inside a character",
         };
@@ -20,27 +40,17 @@ impl fmt::Display for FaultReport {
     }
 }
 
-impl fmt::Display for PageReport {
-    ghost output = { λ report. Some (report_text report) };
+impl fmt::Display for PageRefusal {
+    ghost output = { λ refused. Some (refusal_text refused) };
 
     fn fmt<W: fmt::Write>(&self, f: &mut fmt::Formatter<W>) -> fmt::Result {
-        match *self {
-            PageReport::Accepted {
-                bytes,
-                lines,
-                characters,
-            } => write!(
-                f,
-                "accepted: bytes {bytes}, lines {lines}, characters {characters}"
-            ),
-            PageReport::Refused { refusal, fault } => {
-                let number = refusal.number();
-                let reason = refusal.reason();
-                match fault {
-                    None => write!(f, "refused, number {number}: {reason}"),
-                    Some(found) => write!(f, "refused, number {number}: {reason}; {found}"),
-                }
-            }
+        let PageRefusal { refusal, fault } = *self;
+        let number = refusal.number();
+        match fault {
+            None => write!(f, "refused, number {number}: {refusal}"),
+            Some(found) => write!(f, "refused, number {number}: {refusal}; {found}"),
         }
     }
 }
+
+impl Error for PageRefusal {}

@@ -1,7 +1,9 @@
 ghost use Rattle.sheet.specs.Requests.{AsksFor};
 
+use std::str::FromStr;
+
 // What the one argument asks for.
-#[derive(Clone, Copy)]
+#[derive(Clone, Copy, Debug)]
 pub enum Request {
     // the usage
     Help,
@@ -9,22 +11,23 @@ pub enum Request {
     StandardInput,
     // the page of the file with that path
     File,
-    // nothing that is known
-    UnknownOption,
 }
 
-pub fn requested(argument: &str) -> Request
-    ensures { AsksFor argument.now result }
-{
-    if argument == "--help" {
-        return Request::Help;
+// The argument begins with `-`, and asks for nothing that is known.
+#[derive(Clone, Copy, Debug)]
+pub struct UnknownOption;
+
+impl FromStr for Request {
+    type Err = UnknownOption;
+
+    ghost from_str_gives = { AsksFor };
+
+    fn from_str(argument: &str) -> Result<Request, UnknownOption> {
+        match argument {
+            "--help" => Ok(Request::Help),
+            "-" => Ok(Request::StandardInput),
+            _ if argument.starts_with('-') => Err(UnknownOption),
+            _ => Ok(Request::File),
+        }
     }
-    if argument == "-" {
-        return Request::StandardInput;
-    }
-    let bytes = argument.as_bytes();
-    if bytes.len() > 0 && bytes[0] == b'-' {
-        return Request::UnknownOption;
-    }
-    Request::File
 }

@@ -15,8 +15,8 @@ fn an_empty_page_has_no_token(rt: HostRuntime) -> Result<(), Fail> {
 fn each_byte_alone_is_one_token(rt: HostRuntime) -> Result<(), Fail> {
     for b in 0..=255 {
         let tokens = read_page(rt.alloc(), &[b], &NoNames)?;
-        assert!(rt; tokens.len() == 1);
-        assert!(rt; tokens[0].len == 1);
+        assert_eq!(rt; tokens.len(), 1);
+        assert_eq!(rt; tokens[0].len, 1);
         assert_eq!(rt; tokens[0].start, Place::new(0));
     }
     Ok(())

@@ -20,9 +20,9 @@ fn a_location_has_a_place_from_the_offset_on(rt: HostRuntime) {
 
 #[test]
 fn kinds_are_numbered_in_their_order(rt: HostRuntime) {
-    assert!(rt; TokenKind::Ampersand.number() == 0, "the first");
-    assert!(rt; TokenKind::Eof.number() == 24);
-    assert!(rt; TokenKind::Word.number() == 50, "the last");
-    assert!(rt; TokenKind::Dots == TokenKind::Dots);
-    assert!(rt; TokenKind::Dots != TokenKind::Dashes);
+    assert_eq!(rt; TokenKind::Ampersand.number(), 0, "the first");
+    assert_eq!(rt; TokenKind::Eof.number(), 24);
+    assert_eq!(rt; TokenKind::Word.number(), 50, "the last");
+    assert_eq!(rt; TokenKind::Dots, TokenKind::Dots);
+    assert_ne!(rt; TokenKind::Dots, TokenKind::Dashes);
 }

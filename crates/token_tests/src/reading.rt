@@ -2,20 +2,18 @@
 use page_bytes::Listed;
 use source_lexer::read_page;
 use std::alloc::{AllocError, Global};
+use std::fmt::Write;
+use std::ops::Range;
 
 // Kind, start and end of each token, separated by blanks.
 pub fn written(heap: Global, page: &[u8], names: &[u8]) -> Result<String, AllocError> {
-    let tokens = read_page(heap, page, &Listed(names))?;
     let mut text = String::new(heap);
-    for token in tokens.as_slice() {
-        if !text.is_empty() {
-            text.push_str(" ")?;
-        }
+    let mut gap = "";
+    for token in &read_page(heap, page, &Listed(names))? {
         let kind = token.kind;
-        let start = token.start.count() as u64;
-        let end = start + token.len as u64;
-        let one = format!(in heap; "{kind:?}:{start}:{end}")?;
-        text.push_str(one.as_str())?;
+        let Range { start, end } = token.range();
+        write!(text, "{gap}{kind:?}:{start}:{end}")?;
+        gap = " ";
     }
     Ok(text)
 }

@@ -1,23 +1,20 @@
 // Byte classes, and the runs and counts of their members.
 use page_bytes::{
     Alphanumerics, Ascii, Blanks, ByteClass, ContinuationBytes, Digits, DomainBytes, Either,
-    HexDigits, Not, OneByte, StemBytes, WordBytes, count_members, run_end,
+    HexDigits, Letters, Not, OneByte, StemBytes, WordBytes, count_members, run_end,
 };
 
 // Whether the class has exactly the bytes that are listed.
 fn is_exactly<C: ByteClass>(class: &C, members: &[u8]) -> bool {
-    for b in 0..=255u8 {
-        if class.contains(b) != members.contains(&b) {
-            return false;
-        }
-    }
-    true
+    (0..=255).all(|b| class.contains(b) == members.contains(&b))
 }
 
 // What ends a word in the Rust lexer, as its source lists it, and what ends a word's stem.
 const WORD_ENDS: &[u8] = b" \t\n\r\x0B\x0C:;<>,^_~*!?`+.[]{}()=|\"'\\%#&-\x1B";
 
 const STEM_ENDS: &[u8] = b"@ \t\n\r\x0B\x0C:;<>,^_~*!?`+.[]{}()=|\"'\\%#&-\x1B";
+
+const LETTERS: &[u8] = b"ABCDEFGHIJKLMNOPQRSTUVWXYZabcdefghijklmnopqrstuvwxyz";
 
 const LETTERS_AND_DIGITS: &[u8] = b"ABCDEFGHIJKLMNOPQRSTUVWXYZabcdefghijklmnopqrstuvwxyz0123456789";
 
@@ -38,6 +35,7 @@ fn members_of_each_class(rt: HostRuntime) {
         is_exactly(&HexDigits, b"0123456789abcdefABCDEF"),
         "hex digits"
     );
+    assert!(rt; is_exactly(&Letters, LETTERS), "letters");
     assert!(rt;
         is_exactly(&Alphanumerics, LETTERS_AND_DIGITS),
         "letters and digits"
