@@ -52,6 +52,8 @@ impl ByteClass for ContinuationBytes {
 }
 
 // Space, tab, VT and FF.
+// It differs from `WordBytes` and `StemBytes` in a bit of the table alone. One type over the bit would have the bit in its contract, and not
+// the class.
 #[derive(Clone, Copy)]
 pub struct Blanks;
 

@@ -4,6 +4,8 @@ ghost use Rattle.std.specs.Str.{bytes_eq};
 ghost use Rattle.page_bytes.specs.Names.{listed, in_family};
 
 // A set of byte strings.
+// A trait beside `ByteClass`, and not one for both: a byte is handed over itself and a name by reference, so that one contract over both
+// would speak of references.
 pub trait NameSet {
     // whether a name is a member
     ghost knows: { Self → List ℕ → Bool };
@@ -75,7 +77,7 @@ impl NameSet for Family<'_> {
     }
 }
 
-// The names of either of two sets.
+// The names of either of two sets, as `Either` has the bytes of either of two classes: one type for each trait.
 #[derive(Drop)]
 pub struct Joined<M, N>(pub M, pub N);
 

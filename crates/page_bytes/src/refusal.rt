@@ -17,6 +17,7 @@ pub enum Refusal {
 }
 
 impl Refusal {
+    // Its number: by a method and no `From`, which would not say what is counted.
     pub fn number(self) -> u8
         ensures { result ≡ number_of self }
     {

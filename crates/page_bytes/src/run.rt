@@ -12,7 +12,7 @@ fn run_len<C: ByteClass>(bytes: &[u8], class: &C) -> usize
     bytes.iter().take_while(|b| class.contains(**b)).count()
 }
 
-// Where the longest run of the class from a place on ends.
+// Where the longest run of the class from a place on ends. Page and place are two parameters, since a cursor belongs to the layer above.
 pub fn run_end<C: ByteClass>(page: &[u8], from: usize, class: &C) -> usize
     ensures is { result ≡ run_end (C.ByteClass.holds class.now) page.now from }
     ensures longest { LongestRun (C.ByteClass.holds class.now) page.now from result }

@@ -30,7 +30,7 @@ pub fn check_area(area: &[u8]) -> Result<(), Refusal>
     Ok(())
 }
 
-// The part of the area with that start and length.
+// The part of the area with that start and length: two numbers, since pages are handed over as starts and lengths in one area.
 pub fn text_part(area: &[u8], start: u32, len: u32) -> Result<&[u8], Refusal>
     ensures ground { refusal_of result ≡ first_ground (part_grounds area.now start len) }
     ensures value { IfOk result (λ text. text.now ≡ part area.now start len) }

@@ -4,7 +4,8 @@ ghost use Rattle.token.specs.Places.{number_of_place, location_at};
 
 use crate::location::Location;
 
-// Counts from the page's first byte. No call takes a location for it.
+// Counts from the page's first byte. No call takes a location for it: so the two are types of their own, alike as they are, and neither
+// is made of a number by `into`.
 #[derive(Clone, Copy, Debug, PartialEq, Eq)]
 pub struct Place(u32);
 

@@ -95,7 +95,7 @@ static CASES: [Case; 89] = [
     Case(b"\xF4\x8F\xC0\x80", Err(Byte(2))),
     Case(b"\xF4\x80\x80\x7F", Err(Byte(3))),
     Case(b"\xF4\x8F\xBF\xC0", Err(Byte(3))),
-    // the first fault of several, among ASCII that is passed four bytes at a time
+    // the first fault of several, among ASCII that is passed by its runs
     Case(b"a\xC3\xA9b\xE2\x82\xACc\xF0\x9F\x8D\x87d", Ok(())),
     Case(b"abc\x80d\x80", Err(Byte(3))),
     Case(b"abcd\xFFe", Err(Byte(4))),
