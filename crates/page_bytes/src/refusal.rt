@@ -17,7 +17,7 @@ pub enum Refusal {
 }
 
 impl Refusal {
-    // Its number: by a method and no `From`, which would not say what is counted.
+    // Its number, by a method and no `From`: the call says what it asks for.
     pub fn number(self) -> u8
         ensures { result ≡ number_of self }
     {
