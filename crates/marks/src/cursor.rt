@@ -31,7 +31,7 @@ impl<'p> Cursor<'p> {
     }
 
     // Passes one byte, if it is of the class.
-    pub(crate) fn pass_one<C: ByteClass>(&mut self, class: &C) -> Option<()>
+    pub fn pass_one<C: ByteClass>(&mut self, class: &C) -> Option<()>
         ensures passed { (is_some result, self.new.pos) ≡ tried (spelt_end (one (C.ByteClass.holds class.now) ∷ []) self.old.page.now self.old.pos) self.old.pos }
         ensures page { self.new.page ≡ self.old.page }
     {

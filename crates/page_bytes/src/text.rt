@@ -43,7 +43,7 @@ pub fn text_part(area: &[u8], start: u32, len: u32) -> Result<&[u8], Refusal>
 // Whether bytes are a text: not too long, and well-formed UTF-8.
 pub fn check_text(text: &[u8]) -> Result<(), Refusal>
     ensures ground { refusal_of result ≡ first_ground (text_grounds text.now) }
-    ensures exactly { IsOk result ↔ IsText text.now }
+    ensures exactly { IsOk result ↔ (IsText text.now) }
 {
     if text.len() > MAX_TEXT {
         return Err(Refusal::TextTooLong);
@@ -56,7 +56,7 @@ pub fn check_text(text: &[u8]) -> Result<(), Refusal>
 pub fn checked_page(area: &[u8], start: u32, len: u32) -> Result<&[u8], Refusal>
     ensures ground { refusal_of result ≡ first_ground (page_grounds area.now start len) }
     ensures value { IfOk result (λ text. text.now ≡ part area.now start len) }
-    ensures exactly { IsOk result ↔ IsPage area.now start len }
+    ensures exactly { IsOk result ↔ (IsPage area.now start len) }
 {
     check_area(area)?;
     let text = text_part(area, start, len)?;

@@ -62,7 +62,7 @@ fn scan(bytes: &[u8]) -> Result<Utf8State, Utf8Fault>
 // Whether the bytes are well-formed UTF-8, and if not, where the first fault stands.
 pub fn check_utf8(bytes: &[u8]) -> Result<(), Utf8Fault>
     ensures is { is_ok result ≡ well_formed bytes.now }
-    ensures decides { IsOk result ↔ IsUtf8 bytes.now }
+    ensures decides { IsOk result ↔ (IsUtf8 bytes.now) }
     ensures fault { Verdict bytes.now result }
 {
     match scan(bytes)? {
