@@ -5,8 +5,7 @@ use crate::cursor::Cursor;
 
 // Holds the cursor during a trial scan, and the place to go back to. However the scan is left, the cursor goes back there, unless the scan
 // was accepted.
-// It has no `new`, so a scan writes it out: of a call that a cursor with a lifetime is lent to, the caller's proof did not learn that the
-// guard holds that cursor.
+// There is no `new`: the proof of its caller would not learn that the guard holds the cursor, since the cursor's type has a lifetime.
 pub struct Trial<'c, 'p> {
     pub cursor: &'c mut Cursor<'p>,
     // none once the scan is accepted
