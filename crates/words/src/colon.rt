@@ -80,6 +80,7 @@ impl Stem<'_> {
         requires { is_at self.now.page.now self.now.end 58 ≡ true }
         ensures { result ≡ before_colon (N.NameSet.knows names.now) self.now.page.now self.now.start self.now.end }
     {
+        // no `or_else`: of a closure that holds a stem, a type with a lifetime, the proof learns nothing
         if let Some(token) = self.directive() {
             return token;
         }
