@@ -22,6 +22,7 @@ fn position_after(front: &[u8]) -> (usize, usize)
 }
 
 // The line of a place, from 1, and its column, the bytes between the line's start and the place. A place past the end counts as the end.
+// Page and place are two parameters: a cursor belongs to the token rules, of which this layer knows nothing.
 pub fn line_and_column(page: &[u8], place: usize) -> (usize, usize)
     ensures { result ≡ (line_of page.now place, column_of page.now place) }
 {

@@ -5,7 +5,7 @@ ghost use Rattle.marks.specs.Term.{ends_term, stopped_end, term_mark_end, term_e
 use crate::cursor::Cursor;
 
 impl Cursor<'_> {
-    // Whether a term may end there: at space, tab, CR, LF or the page's end.
+    // Whether a term may end there: at space, tab, CR, LF or the page's end. Another rule than where a line ends, which may change without it.
     fn ends_term(&self) -> bool
         ensures { result ≡ ends_term self.now.page.now self.now.pos }
     {

@@ -38,7 +38,7 @@ impl Stem<'_> {
         }
     }
 
-    // The end of the scheme of an address.
+    // The end of the scheme of an address. No `or` of two options, which would look at the second scheme where the first stands.
     fn continues_uri_scheme(&self) -> Option<usize>
         ensures { result ≡ scheme_end self.now.page.now self.now.start self.now.end }
     {
