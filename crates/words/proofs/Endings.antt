@@ -48,8 +48,8 @@ ending-last w page p q h l some e =
     ∙ ap (λ xs. get_or xs (n - 1) 0) d
 
 -- so a stem with another last byte has another ending
-pub ending-none : (w page : List ℕ) (p q last : ℕ) → p ≤ q → q ≤ length page → slice_get w (length w - 1) ≡ Some last → (get_or page (q - 1) 0 ≡ last → ⊥) → ends_with w (part page p q) ≡ false
-ending-none w page p q last h l is other =
+pub other_ending : (w page : List ℕ) (p q last : ℕ) → p ≤ q → q ≤ length page → slice_get w (length w - 1) ≡ Some last → (get_or page (q - 1) 0 ≡ last → ⊥) → ends_with w (part page p q) ≡ false
+other_ending w page p q last h l is other =
     let some = slice_get_within w (length w - 1) last is in
     ⊎_elim
     (λ t. absurd (other (ending-last w page p q h l (omega arith) t ∙ get_or_from_slice_get w (length w - 1) last 0 is)))

@@ -34,6 +34,7 @@ impl<'p> Stem<'p> {
     }
 
     // Where this text begins, if the stem ends with it. Most stems have another last byte, and are not compared.
+    #[tactic(auto, using(crate::proofs::Endings::other_ending))]
     pub(crate) fn ending(&self, text: &[u8]) -> Option<usize>
         ensures { result ≡ (if ends_with text.now (part self.now.page.now self.now.start self.now.end) then Some (self.now.end - length text.now) else None) }
     {
