@@ -5,7 +5,7 @@ ghost use Rattle.listing.specs.Escapes.{hex_digit, escaped_byte};
 
 use std::alloc::AllocError;
 
-// The hexadecimal digit of a number below 16.
+// The hexadecimal digit of a number below 16. No `char::from_digit`, which answers an option that is never none here.
 fn hex_digit(n: u8) -> u8
     requires { n < 16 }
     ensures { result ≡ hex_digit n }

@@ -6,7 +6,7 @@ use token::TokenRecord;
 
 // A place of a page with its line and its column, which are counted on as the place moves.
 #[derive(Drop)]
-pub struct Position<'a> {
+pub(crate) struct Position<'a> {
     pub page: &'a [u8],
     pub place: usize,
     pub line: usize,
@@ -21,7 +21,7 @@ impl<'a> Position<'a> {
     ghost use Rattle.listing.specs.Listed.{listed_of};
 
     // The position of the page's first byte.
-    pub fn first(page: &'a [u8]) -> Position<'a>
+    pub(crate) fn first(page: &'a [u8]) -> Position<'a>
         ensures page { result.page ≡ page.entry }
         ensures place { result.place ≡ 0 }
     {
@@ -34,13 +34,14 @@ impl<'a> Position<'a> {
     }
 
     // Moves on to a later place.
-    pub fn move_to(&mut self, place: usize)
+    pub(crate) fn move_to(&mut self, place: usize)
         requires onward { self.old.place ≤ place }
         requires on_page { place ≤ length self.old.page.now }
         ensures page { self.new.page ≡ self.old.page }
         ensures place { self.new.place ≡ place }
     {
         for b in &self.page[self.place..place] {
+            // place, line and column move on together, since the ghost fields tie the one to the others
             self.place += 1;
             if *b == b'\n' {
                 self.line += 1;
@@ -51,8 +52,8 @@ impl<'a> Position<'a> {
         }
     }
 
-    // The token that starts here.
-    pub fn listed(&self, token: TokenRecord) -> ListedToken
+    // The token, with this line and column.
+    pub(crate) fn listed(&self, token: TokenRecord) -> ListedToken
         requires { start_of token ≡ self.now.place }
         ensures { result ≡ listed_of self.now.page.now token }
     {

@@ -45,6 +45,7 @@ impl Cursor<'_> {
         ensures passed { (is_some result, self.new.pos) ≡ tried (callout_end self.old.page.now self.old.pos) self.old.pos }
         ensures page { self.new.page ≡ self.old.page }
     {
+        // past the page's end there is no next place to look at
         self.byte()?;
         // the second byte tells which of the four it can be
         match self.with_pos(self.pos + 1).byte()? {

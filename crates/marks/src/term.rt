@@ -5,7 +5,7 @@ ghost use Rattle.marks.specs.Term.{ends_term, stopped_end, term_mark_end, term_e
 use crate::cursor::Cursor;
 
 impl Cursor<'_> {
-    // Whether a term may end there: at space, tab, CR, LF or the page's end. Another rule than where a line ends, which may change without it.
+    // Whether a term may end there: at space, tab, CR, LF or the page's end. Another rule than where a line ends: each may change without the other.
     fn ends_term(&self) -> bool
         ensures { result ≡ ends_term self.now.page.now self.now.pos }
     {
@@ -35,6 +35,7 @@ impl Cursor<'_> {
     pub fn peek_term_delimiter(&self) -> Option<usize>
         ensures { result ≡ term_mark_end self.now.page.now self.now.pos }
     {
+        // a `match`, since behind two colons no semicolons are looked for
         match self.text_end(b"::") {
             Some(behind) => self.with_pos(behind).colons_end(),
             None => self.stopped_end(b";;"),

@@ -4,8 +4,8 @@ ghost use Rattle.std.specs.Str.{bytes_eq};
 ghost use Rattle.page_bytes.specs.Names.{listed, in_family};
 
 // A set of byte strings.
-// A trait beside `ByteClass`, and not one for both: a byte is handed over itself and a name by reference, so that one contract over both
-// would speak of references.
+// A trait of its own beside `ByteClass`: classes and sets of names are two notions. A byte is handed over itself and a name by reference, so
+// that one contract for both would speak of references.
 pub trait NameSet {
     // whether a name is a member
     ghost knows: { Self → List ℕ → Bool };
@@ -31,6 +31,7 @@ impl NameSet for NoNames {
 #[derive(Clone, Copy)]
 pub struct Listed<'a>(pub &'a [u8]);
 
+// Each name is compared byte by byte, in a loop inside the loop over the names: a rule of the project.
 fn is_listed(list: &[u8], name: &[u8]) -> bool
     ensures { result ≡ listed list.now name.now }
 {

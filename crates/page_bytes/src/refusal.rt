@@ -17,7 +17,7 @@ pub enum Refusal {
 }
 
 impl Refusal {
-    // Its number, by a method and no `From`: the call says what it asks for.
+    // Its number. The method is what callers have; a `From` beside it would be a second way to it.
     pub fn number(self) -> u8
         ensures { result ≡ number_of self }
     {
@@ -37,7 +37,7 @@ impl Refusal {
     }
 }
 
-// By its ground in words.
+// Displays its ground.
 impl fmt::Display for Refusal {
     ghost output = { λ refusal. Some (reason_of refusal) };
 

@@ -23,7 +23,7 @@ pub fn run_end<C: ByteClass>(page: &[u8], from: usize, class: &C) -> usize
     }
 }
 
-// How many bytes of the page are members of the class.
+// How many bytes of the page are members of the class. By a `for`: `filter` and `count` take two thirds more instructions.
 pub fn count_members<C: ByteClass>(page: &[u8], class: &C) -> usize
     ensures { result ≡ count_by (C.ByteClass.holds class.now) page.now }
 {

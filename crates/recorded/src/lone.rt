@@ -17,7 +17,7 @@ pub struct LoneCase {
 }
 
 impl LoneCase {
-    // The case that a line of lone cases holds. No `FromStr`, which has no allocator.
+    // The case that a line of lone cases holds. No `FromStr` here and where else a case is parsed: it has no allocator.
     pub fn parse(heap: Global, line: &str) -> Result<LoneCase, Fault> {
         let (names, page) = line.split_once('\t').ok_or(Fault::NoTab)?;
         let names = parse_names(heap, names)?;

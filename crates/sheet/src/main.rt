@@ -74,7 +74,7 @@ fn run(rt: &HostRuntime) -> io::Result<ExitCode> {
     }
 }
 
-// As in `recorded`: a crate for one function of both would be no plainer.
+// `recorded` has the same lines: a crate for them would be no plainer.
 fn main(rt: HostRuntime) -> ExitCode {
     run(&rt).unwrap_or_else(|e| {
         // where standard error takes nothing either, the status alone tells

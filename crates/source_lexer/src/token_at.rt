@@ -15,7 +15,7 @@ impl Start<'_> {
         ensures onward { self.now.pos < result.1 }
         ensures within { result.1 ≤ length self.now.page.now }
     {
-        // no `unwrap_or_else`: of a closure that holds the cursor, a type with a lifetime, the proof learns nothing
+        // no `unwrap_or_else`: the proof learns nothing of a closure that holds the cursor, a type with a lifetime
         match self.by_rule(rule_of(self.byte())) {
             Some(token) => token,
             None => word(&self.cursor(), names),

@@ -67,7 +67,7 @@ fn tag(kind: TokenKind) -> u8
 }
 
 impl TokenKind {
-    // Its number: its place in the list, from 0. No other kind has this number. By a method and no `From`: the call says what it asks for.
+    // Its number: its place in the list, from 0. No other kind has this number. A `From` beside the method would be a second way to it.
     pub fn number(self) -> u8
         ensures is { result ≡ number_of self }
         ensures own { kind_of result ≡ self }

@@ -4,7 +4,7 @@ ghost use Rattle.token.specs.Places.{number_of_location, place_at};
 
 use crate::place::Place;
 
-// Counts with the page's offset. No call takes a place for it.
+// Counts with the page's offset. No call takes a place for it: a type of its own, as alike as it is to `Place`.
 #[derive(Clone, Copy, Debug, PartialEq, Eq)]
 pub struct Location(u32);
 

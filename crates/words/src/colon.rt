@@ -38,7 +38,7 @@ impl Stem<'_> {
         }
     }
 
-    // The end of the scheme of an address. No `or` of two options, which would look at the second scheme where the first stands.
+    // The end of the scheme of an address. Two tests with two lengths: as a chain of `if`s plainer than as options.
     fn continues_uri_scheme(&self) -> Option<usize>
         ensures { result ≡ scheme_end self.now.page.now self.now.start self.now.end }
     {
@@ -80,7 +80,7 @@ impl Stem<'_> {
         requires { is_at self.now.page.now self.now.end 58 ≡ true }
         ensures { result ≡ before_colon (N.NameSet.knows names.now) self.now.page.now self.now.start self.now.end }
     {
-        // no `or_else`: of a closure that holds a stem, a type with a lifetime, the proof learns nothing
+        // no `or_else`: the proof learns nothing of a closure that holds a stem, a type with a lifetime
         if let Some(token) = self.directive() {
             return token;
         }

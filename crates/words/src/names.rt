@@ -38,7 +38,7 @@ const BUILTIN_MACROS: [&[u8]; 16] = [
     b"video",
 ];
 
-// Whether the name is one of these. By `any`, since `contains` is no part of its callers' code, and takes longer.
+// Whether the name is one of these. By `any`, which is inlined: `contains` is not, and takes longer.
 pub(crate) fn is_among(name: &[u8], names: &[&[u8]]) -> bool
     ensures { result ≡ list_any (λ n. bytes_eq name.now n.now) names.now }
 {

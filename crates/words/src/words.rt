@@ -39,7 +39,7 @@ impl Stem<'_> {
     }
 }
 
-// The word, or what begins as one, at a place where nothing else begins. Where no byte is left, it is a word of none.
+// The word, or what begins as one, at a place where nothing else begins. Where no byte is left, it is an empty word.
 pub fn word<N: NameSet>(cursor: &Cursor, names: &N) -> (TokenKind, usize)
     ensures { result ≡ word_or_none (N.NameSet.knows names.now) cursor.now.page.now cursor.now.pos }
 {
