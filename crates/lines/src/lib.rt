@@ -21,7 +21,8 @@ fn position_after(front: &[u8]) -> (usize, usize)
     (lf_count + 1, column_after(front))
 }
 
-// The line of a place, from 1, and its column, the bytes between the line's start and the place. A place past the end counts as the end.
+// The line of a place, from 1, and its column, the bytes between the line's start and the place: a pair, as the product answers them
+// everywhere. A place past the end counts as the end.
 // Page and place are two parameters: a cursor belongs to the token rules, of which this layer knows nothing.
 pub fn line_and_column(page: &[u8], place: usize) -> (usize, usize)
     ensures { result ≡ (line_of page.now place, column_of page.now place) }

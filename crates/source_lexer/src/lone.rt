@@ -9,7 +9,7 @@ use page_bytes::NameSet;
 use std::alloc::{AllocError, Global};
 use token::{Place, TokenRecord};
 
-// The page's tokens, one after the other.
+// The page's tokens, one after the other. By a loop over the reader: an iterator would have to hold the page and the names.
 fn collect<N: NameSet>(heap: Global, page: &[u8], names: &N) -> Result<Vec<TokenRecord>, AllocError>
     ensures { IfOk result (λ tokens. tokens.items ≡ tokens_of (N.NameSet.knows names.now) page.now) }
 {

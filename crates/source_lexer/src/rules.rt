@@ -1,4 +1,4 @@
-// The rules for a token by its first byte.
+// The rules for a token by its first byte. A rule's kind and end are a pair, as the definition has them.
 ghost use Rattle.std.specs.Prelude.{◌≡◌};
 ghost use Rattle.marks.specs.Callout.{callout_end};
 ghost use Rattle.token.specs.Tokens.{of};

@@ -18,7 +18,8 @@ use crate::start::Start;
 use page_bytes::NameSet;
 use token::{Place, TokenRecord};
 
-// The most bytes that a page may have to be read: a place is a number of 32 bits.
+// The most bytes that a page may have to be read: a place is a number of 32 bits. The contracts have that as a premise, and no type has it,
+// which would ask it of callers.
 const MOST: usize = u32::MAX as usize;
 
 // Gives the token at the reader's place and moves the reader to its end.
