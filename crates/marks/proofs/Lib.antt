@@ -5,5 +5,4 @@ pub mod Leads
 pub mod Spells
 pub mod Exact
 pub mod Lines
-pub mod References
 mod Terms

@@ -2,7 +2,7 @@
 use Rattle.std.proofs.Common.{◌≡◌, ℕ, ◌+◌, ◌-◌, ◌<◌, ◌≤◌, Bool, true, false, List, length, get_or, drop, sym, ◌∙◌, subst, ⊎_elim, arith, length-drop, get_or-drop}
 use Rattle.std.specs.List.{prefix_len, slice_range}
 use Rattle.std.proofs.lemmas.List.{take_all}
-use Rattle.std.proofs.lemmas.List.Sums.{prefix_len-drop_yes, prefix_len-drop_no, prefix_len-drop_all, prefix_len-le-length, prefix_len_passes, prefix_len_stops}
+use Rattle.std.proofs.lemmas.List.Sums.{prefix_len-drop_yes, prefix_len-drop_all, prefix_len-le-length, prefix_len_passes, prefix_len_stops}
 use Rattle.std.proofs.lemmas.Bool.{cases_order, true≢false}
 use Rattle.page_bytes.specs.Runs.{run_end, LongestRun}
 
@@ -18,10 +18,6 @@ module _ (is : ℕ → Bool) (page : List ℕ) (p : ℕ) where
   pub run_end-more : p < length page → is (get_or page p 0) ≡ true → run_end is page (p + 1) ≡ run_end is page p
   unfolding run_end
   run_end-more h e = omega (arith, prefix_len-drop_yes is page p 0 h e)
-
-  pub run_end-stop : p < length page → is (get_or page p 0) ≡ false → run_end is page p ≡ p
-  unfolding run_end
-  run_end-stop h e = omega (arith, prefix_len-drop_no is page p 0 h e)
 
   pub run_end-past : length page ≤ p → run_end is page p ≡ p
   unfolding run_end
