@@ -6,7 +6,7 @@ use std::fmt::Write;
 use std::ops::Range;
 
 // Kind, start and end of each token, separated by blanks.
-pub fn written(heap: Global, page: &[u8], names: &[u8]) -> Result<String, AllocError> {
+fn written(heap: Global, page: &[u8], names: &[u8]) -> Result<String, AllocError> {
     let mut text = String::new(heap);
     let mut gap = "";
     for token in &read_page(heap, page, &Listed(names))? {
@@ -19,7 +19,7 @@ pub fn written(heap: Global, page: &[u8], names: &[u8]) -> Result<String, AllocE
 }
 
 // Whether a page has these tokens, with these plug-in names.
-pub fn check_page(
+pub(crate) fn check_page(
     heap: Global,
     page: &[u8],
     names: &[u8],
