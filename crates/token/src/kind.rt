@@ -1,9 +1,12 @@
 // The kinds of tokens.
-ghost use Rattle.std.specs.Prelude.{◌≡◌};
+ghost use Rattle.std.specs.Prelude.{◌≡◌, ◌==◌, Decides};
 ghost use Rattle.token.specs.Kinds.{number_of, kind_of};
+ghost use Rattle.std.specs.Cmp.Rules.{comparing};
+ghost use Rattle.std.specs.Ordering.{on};
+ghost use Rattle.std.proofs.Common.{rules};
 
 // All that the Rust has, in its order. The rules give only some of them: the others are for later stages of a parser.
-#[derive(Clone, Copy, Debug, PartialEq, Eq)]
+#[derive(Clone, Copy, Debug)]
 pub enum TokenKind {
     Ampersand,
     AttrDef,
@@ -74,4 +77,22 @@ impl TokenKind {
     {
         tag(self)
     }
+}
+
+// Two kinds are equal where their numbers are. By hand: a derive says that they are equal where they are the same, and of numbers nothing.
+impl PartialEq for TokenKind {
+    ghost eq = { on number_of ◌==◌ };
+
+    ghost laws = { Prim.search (comparing, rules) };
+
+    fn eq(&self, other: &TokenKind) -> bool
+        ensures is { result ≡ (number_of self.now == number_of other.now) }
+        ensures same { Decides result (self.now ≡ other.now) }
+    {
+        self.number() == other.number()
+    }
+}
+
+impl Eq for TokenKind {
+    ghost laws = { Prim.search (comparing, rules) };
 }
