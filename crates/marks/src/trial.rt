@@ -13,13 +13,14 @@ pub struct Trial<'c, 'p> {
 }
 
 impl Trial<'_, '_> {
-    // Accepts the scan: the cursor stays where it is.
-    pub fn accept(&mut self)
+    // Accepts the scan: the cursor stays where it is. Answers the place to which it goes back no more.
+    pub fn accept(&mut self) -> Option<usize>
         ensures accepted { self.new.back ≡ None }
+        ensures back { result ≡ self.old.back }
         ensures cursor { self.new.cursor.now ≡ self.old.cursor.now }
         ensures lender { self.new.cursor.ghost_name ≡ self.old.cursor.ghost_name }
     {
-        self.back = None;
+        self.back.take()
     }
 }
 
