@@ -46,6 +46,12 @@ impl Cursor<'_> {
         ensures is { result ≡ text_at text.now self.now.page.now self.now.pos }
         ensures fits { result ≡ true → length text.now ≤ length self.now.page.now - self.now.pos }
     {
+        // most texts are told by their first byte
+        if let Some(first) = text.first()
+            && !self.is_at(*first)
+        {
+            return false;
+        }
         match self.page.get(self.pos..) {
             Some(rest) => rest.starts_with(text),
             None => text.is_empty(),

@@ -27,22 +27,32 @@ impl Cursor<'_> {
         if self.ends_term() {
             return Some(self.pos);
         }
-        // no `or_else`: the proof learns nothing of a closure that holds a cursor
-        self.stopped_end(b":").or(self.stopped_end(b"::"))
+        let behind = self.with_pos(self.text_end(b":")?);
+        if behind.ends_term() {
+            return Some(behind.pos);
+        }
+        behind.stopped_end(b":")
     }
 
     // The end of the marks of a term delimiter that stand there, whether a line starts there or not.
+    // Inlined, since at most bytes the first test is all that is done.
+    #[inline(always)]
     pub fn peek_term_delimiter(&self) -> Option<usize>
         ensures { result ≡ term_mark_end self.now.page.now self.now.pos }
     {
-        // a `match`, since behind two colons no semicolons are looked for
-        match self.text_end(b"::") {
-            Some(behind) => self.with_pos(behind).colons_end(),
-            None => self.stopped_end(b";;"),
+        // the first byte tells which marks it can be
+        match self.byte()? {
+            b':' => {
+                let behind = self.text_end(b"::")?;
+                self.with_pos(behind).colons_end()
+            }
+            b';' => self.stopped_end(b";;"),
+            _ => None,
         }
     }
 
-    // The end of the term delimiter that begins there.
+    // The end of the term delimiter that begins there. Inlined for the same reason.
+    #[inline(always)]
     pub fn term_end(&self) -> Option<usize>
         ensures { result ≡ term_end self.now.page.now self.now.pos }
     {

@@ -37,6 +37,8 @@ pub(crate) enum Rule {
     MaybePass,
 }
 
+// Inlined, as `by_rule` is.
+#[inline(always)]
 pub(crate) fn rule_of(b: u8) -> Rule
     ensures { result ≡ rule_of b }
 {

@@ -44,7 +44,9 @@ impl Start<'_> {
         Some(cursor.pos)
     }
 
-    // The token by the rule that its first byte chose, if it is no word.
+    // The token by the rule that its first byte chose, if it is no word. Inlined, with what calls it and the choice of the rule, into the
+    // reader: so the byte is looked up once, and the pair stays in registers.
+    #[inline(always)]
     pub(crate) fn by_rule(&self, rule: Rule) -> Option<(TokenKind, usize)>
         ensures { result ≡ by_rule rule self.now.page.now self.now.pos }
     {

@@ -9,7 +9,8 @@ use token::TokenKind;
 use words::word;
 
 impl Start<'_> {
-    // The token that begins there, by its kind and its end.
+    // The token that begins there, by its kind and its end. Inlined, as `by_rule` is.
+    #[inline(always)]
     pub(crate) fn token_at<N: NameSet>(&self, names: &N) -> (TokenKind, usize)
         ensures is { result ≡ token_at (N.NameSet.knows names.now) self.now.page.now self.now.pos }
         ensures onward { self.now.pos < result.1 }

@@ -22,7 +22,8 @@ use token::{Place, TokenRecord};
 // which would ask it of callers.
 const MOST: usize = u32::MAX as usize;
 
-// Gives the token at the reader's place and moves the reader to its end.
+// Gives the token at the reader's place and moves the reader to its end. Inlined, as `by_rule` is.
+#[inline(always)]
 fn read<N: NameSet>(reader: &mut SourceLexer, page: &[u8], names: &N) -> Option<TokenRecord>
     ensures token { result ≡ given_at (N.NameSet.knows names.now) page.now (pos_of reader.old) }
     ensures pos { pos_of reader.new ≡ pos_after (N.NameSet.knows names.now) page.now (pos_of reader.old) }
@@ -57,7 +58,8 @@ impl SourceLexer {
     }
 
     // Gives the token at the reader's place and moves the reader to its end; at the page's end or past it there is none, and the reader
-    // stays.
+    // stays. Inlined, as `by_rule` is: a loop over it keeps the place in a register.
+    #[inline(always)]
     pub fn next_token<N: NameSet>(&mut self, page: &[u8], names: &N) -> Option<TokenRecord>
         ensures token { result ≡ given_at (N.NameSet.knows names.now) page.now (pos_of self.old) }
         ensures pos { pos_of self.new ≡ pos_after (N.NameSet.knows names.now) page.now (pos_of self.old) }
