@@ -58,7 +58,7 @@ impl SourceLexer {
     }
 
     // Gives the token at the reader's place and moves the reader to its end; at the page's end or past it there is none, and the reader
-    // stays. Inlined, as `by_rule` is: a loop over it keeps the place in a register.
+    // stays. Inlined, as `by_rule` is.
     #[inline(always)]
     pub fn next_token<N: NameSet>(&mut self, page: &[u8], names: &N) -> Option<TokenRecord>
         ensures token { result ≡ given_at (N.NameSet.knows names.now) page.now (pos_of self.old) }
